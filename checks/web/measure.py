@@ -49,9 +49,9 @@ Ends = tuple[int, int]
 METHOD = "ldm"
 
 
-def mix(count: int, draw: random.Random) -> list[int]:
-    """The indices of queries: the k-th is asked with frequency proportional to 1/k."""
-    return draw.choices(range(count), [1 / (place + 1) for place in range(count)], k=100_000)
+def mix(count: int, draw: random.Random, asks: int) -> list[int]:
+    """The indices of this many queries: the k-th is asked with frequency proportional to 1/k."""
+    return draw.choices(range(count), [1 / (place + 1) for place in range(count)], k=asks)
 
 
 def pairs(owner: Owner, count: int, draw: random.Random, near: int | None = None) -> list[Ends]:
@@ -161,7 +161,8 @@ def loaded(
     results: Any = multiprocessing.Queue()
     loaders: list[multiprocessing.Process] = []
     for number in range(LOADERS):
-        order = mix(len(asked), random.Random(seed + number))
+        # more than a loader can ask in this time
+        order = mix(len(asked), random.Random(seed + number), int(20_000 * seconds))
         loaders.append(
             multiprocessing.Process(target=ask_all, args=(addresses, name, asked, wanted, order, seconds, results))
         )

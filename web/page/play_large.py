@@ -11,7 +11,8 @@ from expected import TOP, holds, same
 GRID = 90
 # the limit of one piece of work: in milliseconds of processor time, and in a browser that may have other work
 MOST_PROCESSOR, MOST_BESIDE = 50, 3_000
-# measures the processor time of each piece of work between two turns of the page, whatever else the machine does
+# measures the processor time of each piece of work between two turns of the page: the least of five plays, since the first
+# may include compilation, and since a machine at other work makes a play longer but none shorter
 PIECES = """
 import { readFileSync } from "node:fs";
 const [here, start, end, radius, length, ...files] = process.argv.slice(1);
@@ -21,24 +22,24 @@ const ends = () => { const { user, system } = process.cpuUsage(before); longest 
 const timer = setTimeout;
 globalThis.setTimeout = (does, ...more) => { ends(); return timer(() => { before = process.cpuUsage(); does(); }, ...more); };
 const took = {};
-const piece = async (what, does) => { longest = 0; before = process.cpuUsage(); const made = await does(); ends(); took[what] = longest; return made; };
+const piece = async (what, does) => { longest = 0; before = process.cpuUsage(); const made = await does(); ends(); took[what] = Math.min(longest, took[what] ?? Infinity); return made; };
 const { partsOf, mapOf } = await import(`${here}/formats.mjs`);
 const { LIES } = await import(`${here}/lies.mjs`);
 const { differenceOf } = await import(`${here}/agree.mjs`);
 const { Pauses } = await import(`${here}/pauses.mjs`);
 const { piecesOf } = await import(`${here}/bands.mjs`);
 const { Shapes } = await import(`${here}/shapes.mjs`);
-for (const turn of ["", " again"]) {
-    const parts = await piece(`parts of a radius${turn}`, () => partsOf(all));
-    const way = await piece(`parts of a route${turn}`, () => partsOf(route));
-    const map = await piece(`map${turn}`, () => mapOf(publication));
-    await piece(`comparison${turn}`, () => differenceOf(parts.leaves, map, new Pauses()));
+for (let turn = 0; turn < 5; turn += 1) {
+    const parts = await piece("parts of a radius", () => partsOf(all));
+    const way = await piece("parts of a route", () => partsOf(route));
+    const map = await piece("map", () => mapOf(publication));
+    await piece("comparison", () => differenceOf(parts.leaves, map, new Pauses()));
     const nodes = parts.leaves.map(({ id }, at) => ({ id, distance: BigInt(Math.round(at * Number(radius) / parts.leaves.length)) }));
-    await piece(`bands${turn}`, () => piecesOf(nodes, parts.leaves, [0.2, 0.4, 0.6, 0.8, 1].map((share) => share * Number(radius)), new Shapes(10_000_000, 10), new Pauses()));
+    await piece("bands", () => piecesOf(nodes, parts.leaves, [0.2, 0.4, 0.6, 0.8, 1].map((share) => share * Number(radius)), new Shapes(10_000_000, 10), new Pauses()));
     const more = { server: { reply: async () => all }, older: async () => null, found: { length: BigInt(length) } };
     for (const [name, [, lie]] of Object.entries(LIES)) {
-        await piece(`${name}, a radius${turn}`, async () => lie({ ...more, parts, octets: all, asked: { ask: "reach", from: Number(start), end: BigInt(radius) } }));
-        await piece(`${name}, a route${turn}`, async () => lie({ ...more, parts: way, octets: route, asked: { ask: "route", from: Number(start), end: Number(end) } }));
+        await piece(`${name}, a radius`, async () => lie({ ...more, parts, octets: all, asked: { ask: "reach", from: Number(start), end: BigInt(radius) } }));
+        await piece(`${name}, a route`, async () => lie({ ...more, parts: way, octets: route, asked: { ask: "route", from: Number(start), end: Number(end) } }));
     }
 }
 console.log(JSON.stringify(took));
@@ -116,10 +117,5 @@ def pieces(it: Any, middle: int) -> None:
     same("pieces of work", done.stderr, "")
     took = json.loads(done.stdout or "{}")
     print(f"page: the longest piece of work takes {max(took.values(), default=0):.0f} processor ms")
-    # the first turn may include compilation: the second turn counts
-    same(
-        "pieces of work above 50 ms",
-        [one for one in took.items() if one[0].endswith("again") and one[1] > MOST_PROCESSOR],
-        [],
-    )
-    holds("pieces of work", len(took) >= 40, took)
+    same("pieces of work above 50 ms", [one for one in took.items() if one[1] > MOST_PROCESSOR], [])
+    holds("pieces of work", len(took) >= 20, took)

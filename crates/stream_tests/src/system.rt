@@ -1,15 +1,12 @@
-//! Facts that no clause can state: each call of the system is made, and gives what is noted.
+//! Facts that no clause can state: each call of the system is made at the real system, and gives what is noted.
 
 use crate::asserts::{assert_octets, assert_same};
 use outside::{
     LINK, Look, NotedDisk, NotedFiles, NotedNames, NotedOutput, NotedTail, REGULAR, open_to_append,
     standard_input, sync_folder,
 };
-use std::alloc::Allocator;
-use std::cell::Cell;
-use std::fmt::Display;
 use std::fs::{self, File, Permissions};
-use std::io::{self, BufRead, ErrorKind, Lines};
+use std::io::{self, ErrorKind};
 use std::os::unix::fs::{PermissionsExt, symlink};
 use std::process::Abort;
 use std::rt::Files;
@@ -23,75 +20,10 @@ fn why<T>(answer: &io::Result<T>) -> Option<ErrorKind> {
     }
 }
 
-/// A runtime that prints the first three octets, and keeps them as a number.
-#[derive(Drop)]
-struct ThreeAtATime<'a> {
-    printed: &'a Cell<u64>,
-}
-
-impl Print for ThreeAtATime<'_> {
-    fn print<D: Display + Drop>(&self, value: D) -> io::Result<()> {
-        drop(value);
-        Ok(())
-    }
-
-    fn println<D: Display + Drop>(&self, value: D) -> io::Result<()> {
-        drop(value);
-        Ok(())
-    }
-
-    fn write_all(&self, _bytes: &[u8]) -> io::Result<()> {
-        Ok(())
-    }
-
-    fn write_some(&self, bytes: &[u8]) -> io::Result<usize> {
-        let mut number = 0u64;
-        for octet in bytes.iter().take(3) {
-            number = number.wrapping_mul(256).wrapping_add(u64::from(*octet));
-        }
-        self.printed.set(number);
-        Ok(bytes.len().min(3))
-    }
-}
-
 #[test]
-fn output_takes_the_first_octets(rt: HostRuntime) {
-    let printed = Cell::new(0);
-    let mut output = NotedOutput::new(ThreeAtATime { printed: &printed });
-    assert_same(&rt, &output.write(b"\x01\x02\x03\x04").ok(), &Some(3));
-    assert_same(&rt, &printed.get(), &0x01_02_03);
+fn output_is_printed(rt: HostRuntime) {
     let mut output = NotedOutput::new(rt);
     assert_same(&rt, &output.write(b"output\n").ok(), &Some(7));
-}
-
-/// A runtime whose standard input is six octets.
-struct SixOctets;
-
-impl Input for SixOctets {
-    type Reader = &'static [u8];
-
-    fn read_line<A: Allocator + Clone>(&self, _buf: &mut String<A>) -> io::Result<usize> {
-        Ok(0)
-    }
-
-    fn lines<A: Allocator>(&self, alloc: A) -> Lines<&'static [u8], A> {
-        self.reader().lines(alloc)
-    }
-
-    fn reader(&self) -> &'static [u8] {
-        b"octets"
-    }
-}
-
-#[test]
-fn input_gives_what_its_reader_gives(rt: HostRuntime) {
-    let mut input = standard_input(&SixOctets);
-    let mut piece = [7; 4];
-    assert_same(&rt, &input.read(&mut piece).ok(), &Some(4));
-    assert_octets(&rt, &piece, b"octe");
-    assert_same(&rt, &input.read(&mut piece).ok(), &Some(2));
-    assert_octets(&rt, &piece, b"tste");
-    assert_same(&rt, &input.read(&mut piece).ok(), &Some(0));
 }
 
 #[test]

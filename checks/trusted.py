@@ -8,7 +8,9 @@ little about the system. This script tests that
   semicolon, a value at the end of a block, a condition, or a case; signatures and clauses do not count;
 - no other crate names a part of the standard library that reaches the system: by `use` or a path, by a method of a file
   or of the runtime, or by a macro that prints; and none defines its own object for a file, a stream or the runtime. Crates
-  of tests may do so. So may the program's main crate, which reads the arguments and the clock and writes messages.
+  of tests may do so. So may the program's main crate, which reads the arguments and the clock and writes messages;
+- each object that reaches the system is made where the table MADE says, the main crate included, so that no call goes
+  past the objects of which the contracts speak.
 
 docs/CLAIMS.md has both numbers. With --list it prints each function, its number of statements, and the parts of the
 standard library that it names. Nobody trusts this script.
@@ -36,6 +38,31 @@ METHOD = re.compile(
 )
 OWN = re.compile(r"\bimpl\b[^{;]*\b(?:Read|BufRead|Write|Seek|OpenFile|Files|Print|Input)(?:<[^{}]*>)? for\b")
 TEXTS = re.compile(r'//[^\n]*|b?"(?:\\.|[^"\\])*"|b?\'(?:\\.|[^\'\\])\'')
+# which source makes which objects, once for each time that it stands here; `shipped` makes those of the program
+MADE = {
+    "desk_disk/src/desk_disk.rt": "NotedDisk",
+    "desk_guard/src/folder.rt": "NotedNames",
+    "desk_guard/src/owner_mirror.rt": "FileMirror FileMirror NotedNames open_to_append",
+    "desk_guard/src/secret_file.rt": "NotedNames",
+    "desk_guard/src/streams.rt": "NotedNames",
+    "guarded_run/src/guarding.rt": "NotedNames SignedSink SignedSink",
+    "guarded_run/src/shipping.rt": "DeskDisk FileLibrary FileLibrary KeptLibrary KeptSink StdSink StdSource",
+    "guarded_run/src/telling.rt": "sync_folder",
+    "mirror_out/src/file_mirror.rt": "NotedTail NotedTail",
+    "road_io/src/file_disk.rt": "NotedDisk",
+    "road_io/src/file_library.rt": "NotedFiles",
+    "road_io/src/std_sink.rt": "NotedOutput",
+    "road_io/src/std_source.rt": "standard_input",
+}
+KINDS = (
+    "DeskDisk|FileDisk|FileLibrary|FileMirror|KeptLibrary|KeptSink|NotedDisk|NotedFiles|NotedInput|NotedNames|"
+    "NotedOutput|NotedTail|SignedSink|StdSink|StdSource"
+)
+MAKES = re.compile(
+    rf"\b({KINDS})(?:::<[^;{{}}]*?>)?::(?:new|lost)\b|\b(open_to_append|standard_input|sync_folder)(?=\()"
+)
+RENAMES = re.compile(rf"\b(?:{KINDS}|open_to_append|standard_input|sync_folder) as \w+")
+IMPORT = re.compile(r"^\s*(?:pub )?use [^;]*;", re.M)
 CLAUSE = re.compile(r"(?:requires|ensures|ghost)\b[^{]*$")
 GROUP, FIELDS = re.compile(r"\([^()]*\)|\[[^\[\]]*\]"), re.compile(
     r"(^ *|let |(?<![=!<>])= )([A-Z]\w*) \{[^{}]*\}", re.M
@@ -133,6 +160,17 @@ def reaches(text: str) -> Iterator[str]:
     yield from (found.strip() for found in OWN.findall(code))
 
 
+def made(name: str, text: str) -> Iterator[str]:
+    """The objects that a source makes against the table, and its second names for them."""
+    code = IMPORT.sub("", text)
+    found = sorted(it[0] or it[1] for it in MAKES.findall(code))
+    wanted = sorted(MADE.get(name, "").split())
+    if found != wanted:
+        yield f"makes {' '.join(found) or 'nothing'}, and not {' '.join(wanted) or 'nothing'}"
+    for use in IMPORT.findall(text):
+        yield from RENAMES.findall(use)
+
+
 def main() -> None:
     faults, rows = [], []
     for name, text in sources(TRUSTED):
@@ -142,8 +180,9 @@ def main() -> None:
             if called and number > LONGEST:
                 faults.append(f"{name}:{line}: {function} calls the system and has {number} statements, not {LONGEST}")
     for crate in crates():
-        if crate not in (TRUSTED, MAIN):
-            faults += [f"{name}: {found}" for name, text in sources(crate) for found in reaches(text)]
+        for name, text in sources(crate) if crate != TRUSTED else ():
+            faults += [f"{name}: {found}" for found in made(name, text)]
+            faults += [f"{name}: {found}" for found in reaches(text) if crate != MAIN]
     count = sum(row[3] for row in rows)
     if sys.argv[1:] == ["--list"]:
         for name, line, function, number, called in rows:

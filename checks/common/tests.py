@@ -17,6 +17,7 @@ from typing import Any
 CHECKS = Path(__file__).resolve().parents[1]
 sys.path.insert(0, str(CHECKS))
 
+import trusted  # noqa: E402
 from common import desks, maps, runs, served  # noqa: E402
 from common.looks import Looks, StrictLooks  # noqa: E402
 
@@ -160,6 +161,36 @@ class OfServed(unittest.TestCase):
             self.assertGreaterEqual(server.seconds(), 0)
             server.close()
             self.assertEqual(server.child.returncode, 0)
+
+
+class OfTrusted(unittest.TestCase):
+    def test_who_makes_objects(self) -> None:
+        names = "names = NotedNames::new(rt);\n"
+        for name, text, told in (
+            ("desk_guard/src/folder.rt", names, []),
+            ("desk_guard/src/folder.rt", names + names, ["makes NotedNames NotedNames, and not NotedNames"]),
+            ("desk_guard/src/folder.rt", "", ["makes nothing, and not NotedNames"]),
+            ("road_run/src/run.rt", "print(&mut StdSink::<R>::new(rt), more)", ["makes StdSink, and not nothing"]),
+            ("road_run/src/run.rt", "rt.map(DeskDisk::new)", ["makes DeskDisk, and not nothing"]),
+            ("road_run/src/run.rt", "use desk_disk::DeskDisk as Own;\n", ["DeskDisk as Own"]),
+            ("road_run/src/run.rt", "<FileMirror as Mirror>::octets", []),
+            ("road_run/src/run.rt", "open_to_append(rt, name)", ["makes open_to_append, and not nothing"]),
+        ):
+            with self.subTest(text=text):
+                self.assertEqual(list(trusted.made(name, text)), told)
+
+    def test_what_reaches_the_system(self) -> None:
+        for text, told in (
+            ("use std::io::{self, Error};", []),
+            ("use std::fs::{self, File};", ["std::fs"]),
+            ("file.write_all(octets)?;", [".write_all("]),
+            ("impl Read for Own {", ["impl Read for"]),
+        ):
+            with self.subTest(text=text):
+                self.assertEqual(list(trusted.reaches(text)), told)
+
+    def test_statements(self) -> None:
+        self.assertEqual(trusted.statements("\n    let at = f(\n        one,\n        two,\n    );\n    g(at);\n"), 2)
 
 
 class OfStyle(unittest.TestCase):

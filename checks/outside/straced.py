@@ -24,6 +24,7 @@ from pathlib import Path
 
 sys.path.insert(0, str(Path(__file__).resolve().parents[1]))
 
+from common import layout  # noqa: E402
 from common.desks import AREA, SLOT, SLOTS, slot_at  # noqa: E402
 from common.looks import Looks  # noqa: E402
 from common.maps import FIVE  # noqa: E402
@@ -251,7 +252,7 @@ def known_key() -> Lines:
 
 def signed(slot: int) -> Lines:
     """A header, 104 octets behind its length, and then the gate of its slot."""
-    return put(slot_at(slot) + 1, 105) + put(slot_at(slot), 1)
+    return put(slot_at(slot) + 1, layout.HEADER + 1) + put(slot_at(slot), 1)
 
 
 def closed(*names: str) -> Lines:

@@ -193,7 +193,7 @@ def of_desk_file(owner: Owner) -> None:
     os.remove("owner.desk")
     os.mkfifo("owner.desk")
     for words in ("desk", "links"):
-        says(f"{words} at a FIFO", owner.run(words), 7, "It is no regular file. Take it away.")
+        says(f"{words} at a FIFO", owner.run(words), 7, "It is not a regular file. Move it away.")
     os.remove("owner.desk")
     if not os.geteuid():
         os.chown("real.desk", 65534, 65534)

@@ -1,2 +1,3 @@
 pub mod SystemLaws
 mod Found
+mod Failing

@@ -1,3 +1,4 @@
 pub mod Looks
+pub mod Opening
 pub mod Systems
 pub mod States

@@ -1,5 +1,6 @@
 -- How a desk's file was opened, and what was found of it then.
 use Rattle.std.specs.Prelude.{List, Bool, true, false}
+use Rattle.std.specs.declared.option.Option.TheVariants.{None, Some}
 use Rattle.road_io.specs.Shelves.{Note}
 use Rattle.desk_disk.specs.Looks.{is_seen, is_seen_own}
 use Rattle.desk_disk.specs.Systems.{WasOwn, WasSafe}
@@ -17,11 +18,22 @@ abbrev pub is_writable : State → Bool
 is_writable (Seen was_readable) = true
 is_writable _ = false
 
--- the last answers about the file are looks that show it as the state says
+-- it was not looked at
+abbrev pub is_unseen : State → Bool
+is_unseen Unseen = true
+is_unseen _ = false
+
+-- it did not exist
+abbrev pub is_absent : State → Bool
+is_absent Absent = true
+is_absent _ = false
+
+-- the last answers about the file are looks that show it as the state says: with no fault told, it is closed to others
 abbrev pub is_found : State → List Note → Bool
 is_found Unseen answers = true
 is_found Absent answers = true
-is_found (Own fault) answers = is_seen_own DESK.now answers
+is_found (Own None) answers = is_seen DESK.now answers
+is_found (Own (Some fault)) answers = is_seen_own DESK.now answers
 is_found (Seen was_readable) answers = is_seen DESK.now answers
 
 -- Nothing is read but from a file that was found, at the look after its opening, to be a regular file and no link, the

@@ -1,8 +1,11 @@
 //! The owner's desk as a disk.
-ghost use Rattle.std.specs.Prelude.{◌≡◌, ◌≤◌, [], ◌∷◌, ◌&&◌, false, true, IfOk, OnOk, length};
+ghost use Rattle.std.specs.Prelude.{◌≡◌, ◌+◌, ◌≤◌, [], ◌∷◌, ◌&&◌, List, ℕ, false, true, IfOk, IfErr, OnOk, OnErr, length};
+ghost use Rattle.outside.specs.Called.{Adds, Refuses, creations, looks_first, syncs, was_missing};
 ghost use Rattle.outside.specs.Calls.{noted_sync, noted_write};
 ghost use Rattle.road_io.specs.Causes.{HasCause, Rose, RoseBy};
-ghost use Rattle.desk_disk.specs.States.{is_found, is_read_only, WasFound};
+ghost use Rattle.desk_disk.specs.Opening.{FailsFor, IsKeptFor, IsNotOpenedFor, fault_in, is_absent_so, was_open};
+ghost use Rattle.desk_disk.specs.States.{is_found, is_read_only, is_unseen, is_writable, WasFound};
+ghost use Rattle.desk_disk.specs.declared.handle.TheConstants.{DESK};
 
 use crate::state::{NotOpened, State, make, open_own, open_seen, write};
 use crate::unsafe_desk::Unsafe;
@@ -36,6 +39,8 @@ pub struct DeskDisk<R: Files<File = File> + Drop> {
     world: Record,
     pub ghost seen: { (writes && is_read_only state) ≡ false },
     pub ghost found: { is_found state disk.names.answers.events ≡ true },
+    pub ghost first: { looks_first disk.names.calls.events ≡ true },
+    pub ghost absent: { is_absent_so DESK.now state disk.names.calls.events ≡ true },
 }
 
 impl<R: Files<File = File> + Drop> DeskDisk<R> {
@@ -44,6 +49,7 @@ impl<R: Files<File = File> + Drop> DeskDisk<R> {
     pub fn new(rt: R, writes: bool) -> DeskDisk<R>
         ensures writes { result.writes ≡ writes }
         ensures history { result.disk.history.events ≡ [] }
+        ensures asked { result.disk.names.calls.events ≡ [] }
         ensures faults { result.faults ≡ 0 }
         ensures calls { result.calls ≡ 0 }
     {
@@ -70,12 +76,16 @@ impl<R: Files<File = File> + Drop> DeskDisk<R> {
     }
 
     /// Tests whether others could read the file until it was opened. From then on they cannot.
-    pub fn was_readable(&self) -> bool {
+    pub fn was_readable(&self) -> bool
+        ensures { result ≡ was_open self.now.state }
+    {
         self.state == State::Seen(true)
     }
 
     /// Returns what is at fault with the mode of the file, if a command that only reads has opened it. The fault is left.
-    pub fn fault_left(&self) -> Option<Unsafe> {
+    pub fn fault_left(&self) -> Option<Unsafe>
+        ensures { result ≡ fault_in self.now.state }
+    {
         match self.state {
             State::Own(fault) => fault,
             _ => None,
@@ -89,41 +99,64 @@ impl<R: Files<File = File> + Drop> DeskDisk<R> {
     {}
 
     // Begins a call: counts the call, and opens the file if it is not open yet.
+    #[tactic(auto, using(crate::proofs::Failing::unopened_fails))]
     fn begin(&mut self) -> Result<(), Failed>
         ensures cause { HasCause self.old.faults self.new.faults result }
         ensures kept { OnOk result (self.new.faults ≡ self.old.faults) }
         ensures counted { RoseBy 1 self.old.calls self.new.calls }
         ensures noted { self.new.disk.history.events ≡ self.old.disk.history.events }
         ensures world { self.new.world.events ≡ self.old.world.events }
+        ensures writes { self.new.writes ≡ self.old.writes }
+        ensures begun { OnOk result (is_unseen self.new.state ≡ false) }
+        ensures failed { OnErr result (FailsFor self.new.why_unsafe self.old.disk.names.calls.events
+            self.new.disk.names.calls.events) }
+        ensures more { length self.old.disk.names.calls.events ≤ length self.new.disk.names.calls.events }
+        ensures syncs { syncs self.new.disk.names.calls.events ≡ syncs self.old.disk.names.calls.events }
+        ensures creations { creations self.new.disk.names.calls.events ≡ creations self.old.disk.names.calls.events }
     {
         self.calls = self.calls.saturating_add(1);
         if let State::Unseen = self.state {
-            let opened = opened(&mut self.disk, self.writes);
-            self.take(opened)?;
+            match opened(&mut self.disk, self.writes) {
+                Ok(state) => self.take(state),
+                Err(why) => return Err(self.unopened(why)),
+            }
         }
         Ok(())
     }
 
-    // Stores the state after an opening. Counts a disk error if the opening failed.
-    fn take(&mut self, opened: Result<State, NotOpened>) -> Result<(), Failed>
-        requires written { IfOk opened (λ state. (self.old.writes && is_read_only state) ≡ false) }
-        requires found { IfOk opened (λ state.
-            is_found state self.old.disk.names.answers.events ≡ true) }
-        ensures cause { HasCause self.old.faults self.new.faults result }
-        ensures kept { OnOk result (self.new.faults ≡ self.old.faults) }
+    // Stores the state after an opening.
+    fn take(&mut self, state: State)
+        requires written { (self.old.writes && is_read_only state) ≡ false }
+        requires found { is_found state self.old.disk.names.answers.events ≡ true }
+        requires absent { is_absent_so DESK.now state self.old.disk.names.calls.events ≡ true }
+        ensures state { self.new.state ≡ state }
+        ensures faults { self.new.faults ≡ self.old.faults }
         ensures same { self.new.calls ≡ self.old.calls }
         ensures noted { self.new.disk.history.events ≡ self.old.disk.history.events }
         ensures world { self.new.world.events ≡ self.old.world.events }
+        ensures writes { self.new.writes ≡ self.old.writes }
+        ensures asked { self.new.disk.names.calls.events ≡ self.old.disk.names.calls.events }
     {
-        match opened {
-            Ok(state) => {
-                self.state = state;
-                Ok(())
-            }
-            Err(NotOpened::Failed(e)) => Err(self.failed(e)),
-            Err(NotOpened::Unsafe(why)) => {
+        self.state = state;
+    }
+
+    // Counts a failure of an opening and keeps its reason.
+    fn unopened(&mut self, why: NotOpened) -> Failed
+        ensures why { IsKeptFor why self.new.why_unsafe }
+        ensures cause { Rose self.old.faults self.new.faults }
+        ensures later { self.old.faults ≤ self.new.faults }
+        ensures same { self.new.calls ≡ self.old.calls }
+        ensures noted { self.new.disk.history.events ≡ self.old.disk.history.events }
+        ensures world { self.new.world.events ≡ self.old.world.events }
+        ensures writes { self.new.writes ≡ self.old.writes }
+        ensures asked { self.new.disk.names.calls.events ≡ self.old.disk.names.calls.events }
+        ensures state { self.new.state ≡ self.old.state }
+    {
+        match why {
+            NotOpened::Failed(e) => self.failed(e),
+            NotOpened::Unsafe(why) => {
                 self.why_unsafe = Some(why);
-                Err(self.failed(io::Error::from(io::ErrorKind::PermissionDenied)))
+                self.failed(io::Error::from(io::ErrorKind::PermissionDenied))
             }
         }
     }
@@ -136,6 +169,12 @@ impl<R: Files<File = File> + Drop> DeskDisk<R> {
         ensures cause { HasCause self.old.faults self.new.faults result }
         ensures kept { OnOk result (self.new.faults ≡ self.old.faults) }
         ensures same { self.new.calls ≡ self.old.calls }
+        ensures asked { is_writable self.old.state ≡ true →
+            Adds 12 octets.now self.old.disk.names.calls.events self.new.disk.names.calls.events }
+        ensures refused { is_writable self.old.state ≡ true → OnErr result
+            (Refuses self.old.disk.names.calls.events self.new.disk.names.calls.events) }
+        ensures unasked { is_writable self.old.state ≡ false → self.new.disk.names.calls.events ≡ self.old.disk.names.calls.events }
+        ensures state { self.new.state ≡ self.old.state }
     {
         match write(&mut self.disk, self.state, at, octets) {
             Ok(()) => Ok(()),
@@ -151,6 +190,10 @@ impl<R: Files<File = File> + Drop> DeskDisk<R> {
         ensures cause { HasCause self.old.faults self.new.faults result }
         ensures kept { OnOk result (self.new.faults ≡ self.old.faults) }
         ensures same { self.new.calls ≡ self.old.calls }
+        ensures asked { Adds 13 [] self.old.disk.names.calls.events
+            self.new.disk.names.calls.events }
+        ensures refused { OnErr result
+            (Refuses self.old.disk.names.calls.events self.new.disk.names.calls.events) }
     {
         match self.disk.sync() {
             Ok(()) => Ok(()),
@@ -165,6 +208,10 @@ impl<R: Files<File = File> + Drop> DeskDisk<R> {
         ensures same { self.new.calls ≡ self.old.calls }
         ensures noted { self.new.disk.history.events ≡ self.old.disk.history.events }
         ensures world { self.new.world.events ≡ self.old.world.events }
+        ensures writes { self.new.writes ≡ self.old.writes }
+        ensures asked { self.new.disk.names.calls.events ≡ self.old.disk.names.calls.events }
+        ensures state { self.new.state ≡ self.old.state }
+        ensures why { self.new.why_unsafe ≡ self.old.why_unsafe }
     {
         self.faults = self.faults.saturating_add(1);
         self.last_error = Some(e);
@@ -181,6 +228,19 @@ fn opened<R: Files<File = File> + Drop>(
     ensures found { IfOk result (λ state.
         is_found state disk.new.names.answers.events ≡ true) }
     ensures history { disk.new.history.events ≡ disk.old.history.events }
+    ensures begun { IfOk result (λ state. is_unseen state ≡ false) }
+    ensures first { looks_first disk.old.names.calls.events ≡ true →
+        looks_first disk.new.names.calls.events ≡ true }
+    ensures missing { (absent : List ℕ) → was_missing absent disk.old.names.calls.events ≡ true →
+        was_missing absent disk.new.names.calls.events ≡ true }
+    ensures unopened { IfErr result (λ why.
+        IsNotOpenedFor why disk.old.names.calls.events disk.new.names.calls.events) }
+    ensures absent { IfOk result (λ state.
+        is_absent_so DESK.now state disk.new.names.calls.events ≡ true) }
+    ensures more { length disk.old.names.calls.events ≤ length disk.new.names.calls.events }
+    ensures syncs { syncs disk.new.names.calls.events ≡ syncs disk.old.names.calls.events }
+    ensures creations { creations disk.new.names.calls.events ≡
+        creations disk.old.names.calls.events }
 {
     if writes {
         open_seen(disk)
@@ -190,7 +250,11 @@ fn opened<R: Files<File = File> + Drop>(
 }
 
 impl<R: Files<File = File> + Drop> Disk for DeskDisk<R> {
+    ghost use Rattle.std.specs.Prelude.{Some, IsSomeAnd, take, drop};
+    ghost use Rattle.std.specs.Option.{ForSome, option_map};
+    ghost use Rattle.road_io.specs.Disk.{written, Narrows, Passes, Stays, Torn};
     ghost use Rattle.road_io.specs.Worlds.{reads, LeavesAt, reads_left_now};
+    ghost use Rattle.desk_disk.specs.Opening.{FailsToWrite};
 
     ghost content = { λ d. reads d.world.events d.disk.history.events };
 
@@ -206,7 +270,21 @@ impl<R: Files<File = File> + Drop> Disk for DeskDisk<R> {
 
     ghost image_tells = { λ d i h. (h.now, h.agrees) };
 
-    fn len(&mut self) -> Result<u64, Failed> {
+    #[tactic(auto, using(crate::proofs::Failing::refused_fails))]
+    fn len(&mut self) -> Result<u64, Failed>
+        ensures length { IfOk result (λ n. ForSome (reads self.new.world.events self.new.disk.history.events) (λ c. n ≡ length c)) }
+        ensures content { Narrows (reads self.old.world.events self.old.disk.history.events)
+            (reads self.new.world.events self.new.disk.history.events) }
+        ensures moments { Passes (λ d. length d.disk.history.events)
+            (λ d k i. LeavesAt d.world.events d.disk.history.events k i) self.old self.new Stays }
+        ensures kept { OnOk result (self.new.faults ≡ self.old.faults) }
+        ensures cause { HasCause self.old.faults self.new.faults result }
+        ensures counted { RoseBy 1 self.old.calls self.new.calls }
+        ensures failed { OnErr result (FailsFor self.new.why_unsafe self.old.disk.names.calls.events
+            self.new.disk.names.calls.events) }
+        ensures syncs { syncs self.new.disk.names.calls.events ≡ syncs self.old.disk.names.calls.events }
+        ensures creations { creations self.new.disk.names.calls.events ≡ creations self.old.disk.names.calls.events }
+    {
         self.begin()?;
         match self.disk.len() {
             Ok(count) => Ok(count),
@@ -214,7 +292,22 @@ impl<R: Files<File = File> + Drop> Disk for DeskDisk<R> {
         }
     }
 
-    fn read_at(&mut self, at: u64, into: &mut [u8]) -> Result<(), Failed> {
+    #[tactic(auto, using(crate::proofs::Failing::refused_fails))]
+    fn read_at(&mut self, at: u64, into: &mut [u8]) -> Result<(), Failed>
+        ensures octets { OnOk result (ForSome (reads self.new.world.events self.new.disk.history.events)
+            (λ c. into.new ≡ take (length into.old) (drop at c))) }
+        ensures content { Narrows (reads self.old.world.events self.old.disk.history.events)
+            (reads self.new.world.events self.new.disk.history.events) }
+        ensures moments { Passes (λ d. length d.disk.history.events)
+            (λ d k i. LeavesAt d.world.events d.disk.history.events k i) self.old self.new Stays }
+        ensures kept { OnOk result (self.new.faults ≡ self.old.faults) }
+        ensures cause { HasCause self.old.faults self.new.faults result }
+        ensures counted { RoseBy 1 self.old.calls self.new.calls }
+        ensures failed { OnErr result (FailsFor self.new.why_unsafe self.old.disk.names.calls.events
+            self.new.disk.names.calls.events) }
+        ensures syncs { syncs self.new.disk.names.calls.events ≡ syncs self.old.disk.names.calls.events }
+        ensures creations { creations self.new.disk.names.calls.events ≡ creations self.old.disk.names.calls.events }
+    {
         self.begin()?;
         match self.disk.read_at(at, into) {
             Ok(()) => Ok(()),
@@ -222,16 +315,54 @@ impl<R: Files<File = File> + Drop> Disk for DeskDisk<R> {
         }
     }
 
-    fn write_at(&mut self, at: u64, octets: &[u8]) -> Result<(), Failed> {
+    #[tactic(auto, using(crate::proofs::Failing::unopened_later))]
+    fn write_at(&mut self, at: u64, octets: &[u8]) -> Result<(), Failed>
+        ensures written { OnOk result (reads self.new.world.events self.new.disk.history.events ≡
+            option_map (written at octets.now) (reads self.old.world.events self.old.disk.history.events)) }
+        ensures torn { OnErr result (ForSome (reads self.new.world.events self.new.disk.history.events)
+            (λ c. IsSomeAnd (reads self.old.world.events self.old.disk.history.events)
+            (λ b. Torn at (length octets.now) b c))) }
+        ensures moments { Passes (λ d. length d.disk.history.events)
+            (λ d k i. LeavesAt d.world.events d.disk.history.events k i) self.old self.new (Torn at (length octets.now)) }
+        ensures kept { OnOk result (self.new.faults ≡ self.old.faults) }
+        ensures cause { HasCause self.old.faults self.new.faults result }
+        ensures counted { RoseBy 1 self.old.calls self.new.calls }
+        ensures failed { OnErr result (FailsToWrite self.new.state self.new.why_unsafe
+            self.old.disk.names.calls.events self.new.disk.names.calls.events) }
+        ensures syncs { syncs self.new.disk.names.calls.events ≡ syncs self.old.disk.names.calls.events }
+        ensures creations { creations self.new.disk.names.calls.events ≤ creations self.old.disk.names.calls.events + 1 }
+    {
         self.begin()?;
         if let State::Absent = self.state {
-            let made = make(&mut self.disk);
-            self.take(made)?;
+            match make(&mut self.disk) {
+                Ok(state) => self.take(state),
+                Err(why) => return Err(self.unopened(why)),
+            }
         }
         self.put(at, octets)
     }
 
-    fn sync(&mut self) -> Result<(), Failed> {
+    #[tactic(auto, using(crate::proofs::Failing::refused_fails))]
+    fn sync(&mut self) -> Result<(), Failed>
+        ensures one { OnOk result ((i : List ℕ) → LeavesAt self.new.world.events
+            self.new.disk.history.events (length self.new.disk.history.events) i →
+            reads self.new.world.events self.new.disk.history.events ≡ Some i) }
+        ensures content { OnOk result (reads self.new.world.events self.new.disk.history.events ≡
+            reads self.old.world.events self.old.disk.history.events) }
+        ensures dropped { OnErr result (ForSome (reads self.new.world.events self.new.disk.history.events)
+            (LeavesAt self.old.world.events self.old.disk.history.events
+            (length self.old.disk.history.events))) }
+        ensures moments { Passes (λ d. length d.disk.history.events)
+            (λ d k i. LeavesAt d.world.events d.disk.history.events k i) self.old self.new Stays }
+        ensures kept { OnOk result (self.new.faults ≡ self.old.faults) }
+        ensures cause { HasCause self.old.faults self.new.faults result }
+        ensures counted { RoseBy 1 self.old.calls self.new.calls }
+        ensures failed { OnErr result (FailsFor self.new.why_unsafe self.old.disk.names.calls.events
+            self.new.disk.names.calls.events) }
+        ensures synced { OnOk result (syncs self.new.disk.names.calls.events ≡ syncs self.old.disk.names.calls.events + 1) }
+        ensures syncs { syncs self.new.disk.names.calls.events ≤ syncs self.old.disk.names.calls.events + 1 }
+        ensures creations { creations self.new.disk.names.calls.events ≡ creations self.old.disk.names.calls.events }
+    {
         self.begin()?;
         self.settle()
     }

@@ -1,6 +1,8 @@
 //! Looks at the desk's file before it is used.
-ghost use Rattle.std.specs.Prelude.{◌≡◌, [], ◌∷◌, Ok, Some, None, true, IfOk};
+ghost use Rattle.std.specs.Prelude.{◌≡◌, ◌≤◌, List, ℕ, length, Ok, Some, None, true, IfOk, OnOk, OnErr};
+ghost use Rattle.outside.specs.Called.{Refuses, count_of, creations, looks_first, syncs, was_missing};
 ghost use Rattle.desk_disk.specs.Looks.{is_of_mode, is_seen, is_seen_own, is_seen_readable, shuts_well};
+ghost use Rattle.desk_disk.specs.Opening.{Looked, TellsShut};
 
 use crate::unsafe_desk::{Unsafe, fault_of_opened};
 use outside::NotedDisk;
@@ -25,6 +27,20 @@ pub fn looked<R: Files<File = File> + Drop>(
     ensures shuts { shuts_well name.now disk.old.names.answers.events ≡ true →
         shuts_well name.now disk.new.names.answers.events ≡ true }
     ensures history { disk.new.history.events ≡ disk.old.history.events }
+    ensures more { length disk.old.names.calls.events ≤ length disk.new.names.calls.events }
+    ensures looked { OnOk result
+        (Looked disk.old.names.calls.events disk.new.names.calls.events) }
+    ensures refused { OnErr result
+        (Refuses disk.old.names.calls.events disk.new.names.calls.events) }
+    ensures first { looks_first disk.old.names.calls.events ≡ true →
+        looks_first disk.new.names.calls.events ≡ true }
+    ensures missing { (absent : List ℕ) → was_missing absent disk.old.names.calls.events ≡ true →
+        was_missing absent disk.new.names.calls.events ≡ true }
+    ensures unshut { count_of 15 disk.new.names.calls.events ≡
+        count_of 15 disk.old.names.calls.events }
+    ensures syncs { syncs disk.new.names.calls.events ≡ syncs disk.old.names.calls.events }
+    ensures creations { creations disk.new.names.calls.events ≡
+        creations disk.old.names.calls.events }
 {
     let user = disk.user();
     let named = disk.look_at_link(name)?;
@@ -43,6 +59,20 @@ pub fn settled<R: Files<File = File> + Drop>(
     ensures shuts { shuts_well name.now disk.old.names.answers.events ≡ true →
         shuts_well name.now disk.new.names.answers.events ≡ true }
     ensures history { disk.new.history.events ≡ disk.old.history.events }
+    ensures more { length disk.old.names.calls.events ≤ length disk.new.names.calls.events }
+    ensures looked { OnOk result
+        (Looked disk.old.names.calls.events disk.new.names.calls.events) }
+    ensures refused { OnErr result
+        (Refuses disk.old.names.calls.events disk.new.names.calls.events) }
+    ensures first { looks_first disk.old.names.calls.events ≡ true →
+        looks_first disk.new.names.calls.events ≡ true }
+    ensures missing { (absent : List ℕ) → was_missing absent disk.old.names.calls.events ≡ true →
+        was_missing absent disk.new.names.calls.events ≡ true }
+    ensures told { IfOk result (λ found.
+        TellsShut found.1 disk.old.names.calls.events disk.new.names.calls.events) }
+    ensures syncs { syncs disk.new.names.calls.events ≡ syncs disk.old.names.calls.events }
+    ensures creations { creations disk.new.names.calls.events ≡
+        creations disk.old.names.calls.events }
 {
     match looked(disk, name)? {
         Some(Unsafe::Readable) => {

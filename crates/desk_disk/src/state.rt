@@ -1,7 +1,10 @@
 //! How the desk's file is opened.
-ghost use Rattle.std.specs.Prelude.{◌≡◌, ◌∷◌, false, true, IfOk, IsErr};
+ghost use Rattle.std.specs.Prelude.{◌≡◌, ◌+◌, ◌≤◌, ◌∷◌, List, ℕ, length, false, true, is_some, IfOk, IfErr, IsErr, OnOk, OnErr};
+ghost use Rattle.outside.specs.Called.{Called, Refuses, count_of, creations, is_behind_look, looks_first, syncs, was_missing};
 ghost use Rattle.outside.specs.Calls.{noted_write};
-ghost use Rattle.desk_disk.specs.States.{is_found, is_read_only, is_writable};
+ghost use Rattle.desk_disk.specs.Opening.{IsNotOpenedFor, Looked, TellsShut, is_absent_so, was_open};
+ghost use Rattle.desk_disk.specs.States.{is_absent, is_found, is_read_only, is_unseen, is_writable};
+ghost use Rattle.desk_disk.specs.declared.handle.TheConstants.{DESK};
 
 use crate::handle::{DESK, looked, settled};
 use crate::unsafe_desk::{Unsafe, fault_of, is_of_mode};
@@ -32,6 +35,10 @@ pub enum NotOpened {
 }
 
 impl From<io::Error> for NotOpened {
+    ghost use Rattle.desk_disk.specs.declared.state.NotOpened.TheVariants.{Failed};
+
+    ghost from_gives = { λ e why. why ≡ Failed e };
+
     fn from(e: io::Error) -> NotOpened {
         NotOpened::Failed(e)
     }
@@ -43,6 +50,21 @@ fn fault_of_name<R: Files<File = File> + Drop>(
     disk: &mut NotedDisk<R>,
 ) -> io::Result<Option<Unsafe>>
     ensures history { disk.new.history.events ≡ disk.old.history.events }
+    ensures more { length disk.old.names.calls.events ≤ length disk.new.names.calls.events }
+    ensures first { looks_first disk.old.names.calls.events ≡ true →
+        looks_first disk.new.names.calls.events ≡ true }
+    ensures missing { (absent : List ℕ) → was_missing absent disk.old.names.calls.events ≡ true →
+        was_missing absent disk.new.names.calls.events ≡ true }
+    ensures syncs { syncs disk.new.names.calls.events ≡ syncs disk.old.names.calls.events }
+    ensures creations { creations disk.new.names.calls.events ≡
+        creations disk.old.names.calls.events }
+    ensures unshut { count_of 15 disk.new.names.calls.events ≡
+        count_of 15 disk.old.names.calls.events }
+    ensures looked { OnOk result (is_behind_look DESK.now disk.new.names.calls.events ≡ true) }
+    ensures shown { IfOk result (λ fault. is_some fault ≡ true →
+        Looked disk.old.names.calls.events disk.new.names.calls.events) }
+    ensures refused { OnErr result
+        (Refuses disk.old.names.calls.events disk.new.names.calls.events) }
 {
     let user = disk.user();
     match disk.look_at_link(DESK) {
@@ -58,6 +80,21 @@ pub fn open_seen<R: Files<File = File> + Drop>(disk: &mut NotedDisk<R>) -> Resul
     ensures found { IfOk result (λ state.
         is_found state disk.new.names.answers.events ≡ true) }
     ensures history { disk.new.history.events ≡ disk.old.history.events }
+    ensures begun { IfOk result (λ state. is_unseen state ≡ false) }
+    ensures more { length disk.old.names.calls.events ≤ length disk.new.names.calls.events }
+    ensures first { looks_first disk.old.names.calls.events ≡ true →
+        looks_first disk.new.names.calls.events ≡ true }
+    ensures missing { (absent : List ℕ) → was_missing absent disk.old.names.calls.events ≡ true →
+        was_missing absent disk.new.names.calls.events ≡ true }
+    ensures syncs { syncs disk.new.names.calls.events ≡ syncs disk.old.names.calls.events }
+    ensures creations { creations disk.new.names.calls.events ≡
+        creations disk.old.names.calls.events }
+    ensures unopened { IfErr result (λ why.
+        IsNotOpenedFor why disk.old.names.calls.events disk.new.names.calls.events) }
+    ensures absent { IfOk result (λ state.
+        is_absent_so DESK.now state disk.new.names.calls.events ≡ true) }
+    ensures told { IfOk result (λ state.
+        TellsShut (was_open state) disk.old.names.calls.events disk.new.names.calls.events) }
 {
     match fault_of_name(disk)? {
         None | Some(Unsafe::Readable) => {}
@@ -79,6 +116,19 @@ pub fn make<R: Files<File = File> + Drop>(disk: &mut NotedDisk<R>) -> Result<Sta
     ensures found { IfOk result (λ state.
         is_found state disk.new.names.answers.events ≡ true) }
     ensures history { disk.new.history.events ≡ disk.old.history.events }
+    ensures more { length disk.old.names.calls.events ≤ length disk.new.names.calls.events }
+    ensures first { looks_first disk.old.names.calls.events ≡ true →
+        looks_first disk.new.names.calls.events ≡ true }
+    ensures missing { (absent : List ℕ) → was_missing absent disk.old.names.calls.events ≡ true →
+        was_missing absent disk.new.names.calls.events ≡ true }
+    ensures syncs { syncs disk.new.names.calls.events ≡ syncs disk.old.names.calls.events }
+    ensures creations { creations disk.new.names.calls.events ≡
+        creations disk.old.names.calls.events + 1 }
+    ensures unopened { IfErr result (λ why.
+        IsNotOpenedFor why disk.old.names.calls.events disk.new.names.calls.events) }
+    ensures told { IfOk result (λ state.
+        TellsShut (was_open state) disk.old.names.calls.events disk.new.names.calls.events) }
+    ensures made { IfOk result (λ state. is_writable state ≡ true) }
 {
     let opened = disk.create(DESK)?;
     disk.hold(opened)?;
@@ -91,6 +141,19 @@ fn seen<R: Files<File = File> + Drop>(disk: &mut NotedDisk<R>) -> Result<State, 
     ensures found { IfOk result (λ state.
         is_found state disk.new.names.answers.events ≡ true) }
     ensures history { disk.new.history.events ≡ disk.old.history.events }
+    ensures more { length disk.old.names.calls.events ≤ length disk.new.names.calls.events }
+    ensures first { looks_first disk.old.names.calls.events ≡ true →
+        looks_first disk.new.names.calls.events ≡ true }
+    ensures missing { (absent : List ℕ) → was_missing absent disk.old.names.calls.events ≡ true →
+        was_missing absent disk.new.names.calls.events ≡ true }
+    ensures syncs { syncs disk.new.names.calls.events ≡ syncs disk.old.names.calls.events }
+    ensures creations { creations disk.new.names.calls.events ≡
+        creations disk.old.names.calls.events }
+    ensures unopened { IfErr result (λ why.
+        IsNotOpenedFor why disk.old.names.calls.events disk.new.names.calls.events) }
+    ensures told { IfOk result (λ state.
+        TellsShut (was_open state) disk.old.names.calls.events disk.new.names.calls.events) }
+    ensures seen { IfOk result (λ state. is_writable state ≡ true) }
 {
     let (fault, was_readable) = settled(disk, DESK)?;
     match fault {
@@ -108,6 +171,19 @@ pub fn open_own<R: Files<File = File> + Drop>(disk: &mut NotedDisk<R>) -> Result
     ensures found { IfOk result (λ state.
         is_found state disk.new.names.answers.events ≡ true) }
     ensures history { disk.new.history.events ≡ disk.old.history.events }
+    ensures begun { IfOk result (λ state. is_unseen state ≡ false) }
+    ensures more { length disk.old.names.calls.events ≤ length disk.new.names.calls.events }
+    ensures first { looks_first disk.old.names.calls.events ≡ true →
+        looks_first disk.new.names.calls.events ≡ true }
+    ensures missing { (absent : List ℕ) → was_missing absent disk.old.names.calls.events ≡ true →
+        was_missing absent disk.new.names.calls.events ≡ true }
+    ensures syncs { syncs disk.new.names.calls.events ≡ syncs disk.old.names.calls.events }
+    ensures creations { creations disk.new.names.calls.events ≡
+        creations disk.old.names.calls.events }
+    ensures unopened { IfErr result (λ why.
+        IsNotOpenedFor why disk.old.names.calls.events disk.new.names.calls.events) }
+    ensures absent { IfOk result (λ state.
+        is_absent_so DESK.now state disk.new.names.calls.events ≡ true) }
 {
     match fault_of_name(disk)? {
         Some(why) if !is_of_mode(Some(why)) => return Err(NotOpened::Unsafe(why)),
@@ -123,10 +199,23 @@ pub fn open_own<R: Files<File = File> + Drop>(disk: &mut NotedDisk<R>) -> Result
 }
 
 /// Looks at a file that was opened and locked. If more than its mode is at fault, closes it.
+#[tactic(auto, using(crate::proofs::Found::found_own))]
 fn own<R: Files<File = File> + Drop>(disk: &mut NotedDisk<R>) -> Result<State, NotOpened>
     ensures found { IfOk result (λ state.
         is_found state disk.new.names.answers.events ≡ true) }
     ensures history { disk.new.history.events ≡ disk.old.history.events }
+    ensures begun { IfOk result (λ state. is_unseen state ≡ false) }
+    ensures more { length disk.old.names.calls.events ≤ length disk.new.names.calls.events }
+    ensures first { looks_first disk.old.names.calls.events ≡ true →
+        looks_first disk.new.names.calls.events ≡ true }
+    ensures missing { (absent : List ℕ) → was_missing absent disk.old.names.calls.events ≡ true →
+        was_missing absent disk.new.names.calls.events ≡ true }
+    ensures syncs { syncs disk.new.names.calls.events ≡ syncs disk.old.names.calls.events }
+    ensures creations { creations disk.new.names.calls.events ≡
+        creations disk.old.names.calls.events }
+    ensures unopened { IfErr result (λ why.
+        IsNotOpenedFor why disk.old.names.calls.events disk.new.names.calls.events) }
+    ensures own { IfOk result (λ state. is_absent state ≡ false) }
 {
     let fault = looked(disk, DESK)?;
     match fault {
@@ -157,6 +246,10 @@ pub fn write<R: Files<File = File> + Drop>(
     ensures noted { disk.new.history.events ≡
         noted_write result at octets.now ∷ disk.old.history.events }
     ensures answers { disk.new.names.answers.events ≡ disk.old.names.answers.events }
+    ensures called { is_writable state ≡ true →
+        Called 12 octets.now result disk.old.names.calls.events disk.new.names.calls.events }
+    ensures unasked { is_writable state ≡ false →
+        disk.new.names.calls.events ≡ disk.old.names.calls.events }
 {
     let kind = match state {
         State::Seen(_) => return disk.write_at(at, octets),

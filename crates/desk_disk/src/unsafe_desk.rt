@@ -37,7 +37,7 @@ impl Display for Unsafe {
     fn fmt<W: fmt::Write>(&self, f: &mut Formatter<W>) -> fmt::Result {
         f.write_str(match self {
             Unsafe::Link => "It is a link, which is not followed. Move the file itself here.",
-            Unsafe::Kind => "It is no regular file. Take it away.",
+            Unsafe::Kind => "It is not a regular file. Move it away.",
             Unsafe::Changed =>
                 "Something else put another file under its name just now. Nothing was done. Stop what changes this folder, look which file is your desk, and run the command again.",
             Unsafe::User =>

@@ -1,6 +1,7 @@
 //! The look at the owner's desk before a command uses its keys.
-ghost use Rattle.std.specs.Prelude.{◌≡◌, ◌≢◌, ◌⊎◌, true, Err, Some, None, IfErr, IfOk, IfSome, IsSomeAnd, MatchOption, OnOk};
+ghost use Rattle.std.specs.Prelude.{◌≡◌, ◌≢◌, ◌⊎◌, ◌≤◌, true, Err, Some, None, IfErr, IfOk, IfSome, IsSomeAnd, MatchOption, OnOk};
 ghost use Rattle.std.specs.Option.{ForSome};
+ghost use Rattle.road_io.specs.Causes.{HasCause, Rose};
 ghost use Rattle.road_io.specs.Disk.{Narrows, Stays};
 ghost use Rattle.road_io.specs.Moments.{AtEachMoment, still_told};
 ghost use Rattle.desk_sight.specs.Images.{seen_of};
@@ -36,6 +37,7 @@ fn settle<D: Disk>(disk: &mut D) -> Result<(), Unfit>
     ensures content { OnOk result (D.content disk.new ≡ D.content disk.old) }
     ensures moments { AtEachMoment D.Disk disk.old disk.new Stays }
     ensures fault { IfErr result (λ why. why ≡ Unfit.Disk) }
+    ensures cause { HasCause (D.faults disk.old) (D.faults disk.new) result }
 {
     disk.sync()?;
     Ok(())
@@ -49,6 +51,8 @@ fn stable_image<D: Disk>(alloc: Global, disk: &mut D) -> Result<Vec<u8>, Unfit>
     ensures stays { AtEachMoment D.Disk disk.old disk.new Stays }
     ensures not_strange { (e : Strange) → result ≢ Err (Unfit.Strange e) }
     ensures not_other { result ≢ Err Unfit.OtherKey }
+    ensures faults { D.faults disk.old ≤ D.faults disk.new }
+    ensures fault { result ≡ Err Unfit.Disk → Rose (D.faults disk.old) (D.faults disk.new) }
 {
     settle(disk)?;
     let image = image_of(alloc, disk)?;
@@ -74,6 +78,8 @@ fn told_of<D: Disk>(
     ensures stays { AtEachMoment D.Disk disk.old disk.new Stays }
     ensures not_strange { (e : Strange) → result ≢ Err (Unfit.Strange e) }
     ensures not_other { result ≢ Err Unfit.OtherKey }
+    ensures faults { D.faults disk.old ≤ D.faults disk.new }
+    ensures fault { result ≡ Err Unfit.Disk → Rose (D.faults disk.old) (D.faults disk.new) }
 {
     let image = stable_image(alloc, disk)?;
     let Ok(sight) = sight_of(&image) else {
@@ -147,6 +153,9 @@ pub fn fit_desk<D: Disk>(
     ensures fits { IfOk result.told (λ told. ForSome (D.content disk.new)
         (λ c. IsFit what first (seen_of c) told.sight told.signer)) }
     ensures stable { IfOk result.told (λ told. BeginsStable D.Disk what disk.new) }
+    ensures faults { D.faults disk.old ≤ D.faults disk.new }
+    ensures fault { IfErr result.told (λ why. why ≡ Unfit.Disk →
+        Rose (D.faults disk.old) (D.faults disk.new)) }
 {
     let nothing = Told {
         sight: None,

@@ -1,7 +1,7 @@
 //! The look at an owner's desk before a command uses its keys.
 ghost use Rattle.std.specs.Prelude.{◌≡◌, ◌≢◌, ◌-◌, ◌*◌, ◌≤◌, ◌↔◌, true, List, ℕ, Err, Ok, Some, None, IfOk, IsErr, OnOk, MatchOption};
 ghost use Rattle.std.specs.Option.{ForSome};
-ghost use Rattle.road_io.specs.Causes.{HasCause};
+ghost use Rattle.road_io.specs.Causes.{HasCause, Rose};
 ghost use Rattle.road_io.specs.Disk.{Stays};
 ghost use Rattle.road_io.specs.Moments.{EachImage, AtEachMoment, still_told};
 ghost use Rattle.desk_areas.specs.Layout.{base_of, gate_at};
@@ -194,6 +194,7 @@ fn spend_link<D: Disk>(
     ensures content { (e : Strange) → result ≡ Err (Unfit.Strange e) →
         D.content disk.new ≡ D.content disk.old }
     ensures faults { D.faults disk.old ≤ D.faults disk.new }
+    ensures fault { result ≡ Err Unfit.Disk → Rose (D.faults disk.old) (D.faults disk.new) }
 {
     let Some(link) = sight.link else {
         return Ok(Spending::Nothing);
@@ -234,6 +235,7 @@ fn spend_header<D: Disk>(alloc: Global, disk: &mut D, sight: Sight) -> Result<Sp
         EachImage D.Disk disk.new
         (λ i. (c : List ℕ) × (D.content disk.old ≡ Some c) × HasSpent slot c i) }
     ensures faults { D.faults disk.old ≤ D.faults disk.new }
+    ensures fault { result ≡ Err Unfit.Disk → Rose (D.faults disk.old) (D.faults disk.new) }
 {
     let Some(waiting) = sight.waiting else {
         return Ok(Spending::Nothing);
@@ -243,7 +245,7 @@ fn spend_header<D: Disk>(alloc: Global, disk: &mut D, sight: Sight) -> Result<Sp
             slot,
             version: waiting.version,
         }),
-        Ok(None) => Err(Unfit::Disk),
+        Ok(None) => Err(Unfit::BadBlock),
         Err(e) => Err(why_unfit(e)),
     }
 }
@@ -274,6 +276,7 @@ fn spend<D: Disk>(
         EachImage D.Disk disk.new
         (λ i. (c : List ℕ) × (D.content disk.old ≡ Some c) × HasSpent slot c i) }
     ensures faults { D.faults disk.old ≤ D.faults disk.new }
+    ensures fault { result ≡ Err Unfit.Disk → Rose (D.faults disk.old) (D.faults disk.new) }
 {
     match what {
         Use::Publish => spend_header(alloc, disk, sight),
@@ -366,6 +369,7 @@ fn look_over<D: Disk>(
         seen.spending ≡ Spending.Header slot version → EachImage D.Disk disk.new
         (λ i. (c : List ℕ) × (D.content disk.old ≡ Some c) × HasSpent slot c i) }
     ensures faults { D.faults disk.old ≤ D.faults disk.new }
+    ensures fault { result ≡ Err Unfit.Disk → Rose (D.faults disk.old) (D.faults disk.new) }
 {
     if what == Use::Key {
         return new_desk(image);
@@ -416,6 +420,7 @@ pub fn look<D: Disk>(
         seen.spending ≡ Spending.Header slot version → EachImage D.Disk disk.new
         (λ i. (c : List ℕ) × (D.content disk.old ≡ Some c) × HasSpent slot c i) }
     ensures faults { D.faults disk.old ≤ D.faults disk.new }
+    ensures fault { result ≡ Err Unfit.Disk → Rose (D.faults disk.old) (D.faults disk.new) }
 {
     let image = image_of(alloc, disk)?;
     look_over(alloc, what, &public, disk, &image)

@@ -5,12 +5,14 @@ use Rattle.road_io.specs.declared.library.Library.{Ghosts as LibraryView}
 use Rattle.road_io.specs.declared.source.Source.{Ghosts as SourceView}
 use Rattle.road_io.specs.declared.sink.Sink.{Ghosts as SinkView}
 use Rattle.road_io.specs.declared.disk.Disk.{Ghosts as DiskView}
+use Rattle.road_io.specs.Causes.{Rose}
 use Rattle.road_io.specs.Disk.{Stays}
 use Rattle.road_io.specs.Moments.{AtEachMoment, still_told}
 use Rattle.mirror_out.specs.declared.mirror.Mirror.{Ghosts as MirrorView}
 use Rattle.desk_sight.specs.Images.{seen_of}
 use Rattle.desk_sight.specs.declared.looking.Use.{Use}
 use Rattle.desk_sight.specs.declared.looking.Unfit.{Unfit}
+use Rattle.desk_sight.specs.declared.looking.Unfit.TheVariants.{Disk}
 use Rattle.desk_sight.specs.Sights.{IsSight, IsUntold}
 use Rattle.desk_sight.specs.declared.sight.Sight.{Sight}
 use Rattle.desk_sight.specs.declared.looking.Spending.{Spending}
@@ -34,6 +36,7 @@ pub record IsRefusal {D : Type 0} (disk : DiskView D) (first : Option (List ℕ)
   pub left : LeavesAsItWas why (AtEachMoment disk d d' Stays)
   pub cause : ForSome (disk.content d') (λ c. IsWhy what first why (seen_of c))
   pub spent : IsSpentSo disk spending d d'
+  pub failed : why ≡ Disk → Rose (disk.faults d) (disk.faults d')
 
 pub record IsBegun {D : Type 0} (disk : DiskView D) (first : Option (List ℕ)) (sight : Option Sight) (signer : Option (List ℕ)) (spending : Spending) (d began : D) (what : Option Use) : Type 0 where
   pub looked : Looks disk what d began
@@ -52,13 +55,14 @@ of_value {T} told value P is h = subst (λ (r : Result T Unfit). IfOk r P) is h
 
 module _ {D : Type 0} (disk : DiskView D) (first : Option (List ℕ)) (spending : Spending) (told : Result Told Unfit) (d d' : D) (what : Option Use) where
   pub refusal : (why : Unfit) → told ≡ Err why → IfErr told (λ w. what ≢ None) → Looks disk what d d' → IfErr told (λ w. LeavesAsItWas w (AtEachMoment disk d d' Stays))
-      → IfErr told (λ w. ForSome (disk.content d') (λ c. IsWhy what first w (seen_of c))) → IsSpentSo disk spending d d' → IsRefusal disk first spending why d d' what
-  refusal why is uses looked left cause spent = record {
+      → IfErr told (λ w. ForSome (disk.content d') (λ c. IsWhy what first w (seen_of c))) → IsSpentSo disk spending d d' → IfErr told (λ w. w ≡ Disk → Rose (disk.faults d) (disk.faults d')) → IsRefusal disk first spending why d d' what
+  refusal why is uses looked left cause spent failed = record {
     uses = of_error told why (λ w. what ≢ None) is uses;
     looked = looked;
     left = of_error told why (λ w. LeavesAsItWas w (AtEachMoment disk d d' Stays)) is left;
     cause = of_error told why (λ w. ForSome (disk.content d') (λ c. IsWhy what first w (seen_of c))) is cause;
     spent = spent;
+    failed = of_error told why (λ w. w ≡ Disk → Rose (disk.faults d) (disk.faults d')) is failed;
   }
 
   pub begun : (value : Told) → told ≡ Ok value → Looks disk what d d' → IfOk told (λ t. ForSome (still_told disk d d') (λ c. BeginsUnrefused what first (seen_of c))) → IsSpentSo disk spending d d'
@@ -78,7 +82,7 @@ module _ {L S I K D M : Type 0} (library : LibraryView L) (source : SourceView S
       → IsRefusal disk first spending why d d' what → sink.taken k ≡ Some [] → RunsNot library source below sink awaited disk mirror asked first spending why l l s s k d d' ms ms gone gone
   refused asked first spending why what l s k d d' ms gone is known silent =
       let now : IsRefusal disk first spending why d d' (keys_used asked) = subst (IsRefusal disk first spending why d d') is known in
-      record { uses = now.uses; looked = now.looked; left = now.left; cause = now.cause; spent = now.spent; files = refl; input = refl; silent = silent; mirrors = refl; none_gone = refl }
+      record { uses = now.uses; looked = now.looked; left = now.left; cause = now.cause; spent = now.spent; files = refl; input = refl; silent = silent; mirrors = refl; none_gone = refl; failed = now.failed }
 
   pub ran : (asked : Option Request) (first : Option (List ℕ)) (sight : Option Sight) (signer : Option (List ℕ)) (spending : Spending) (ended : Ended) (what : Option Use) (l l' : L) (s s' : S) (i : I) (fresh k' : K) (d began d' : D) (ms ms' gone gone' : List M)
       → what ≡ keys_used asked → IsBegun disk first sight signer spending d began what → sink.taken fresh ≡ Some [] → awaited fresh ≡ signer → sink.faults fresh ≡ below.faults i

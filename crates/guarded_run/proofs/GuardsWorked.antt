@@ -118,8 +118,8 @@ spends_nothing = record {
   keys = record { later = omega arith; past = λ k i early is. is; each = λ k i from to is. (i, is, same_keys i i refl) };
 }
 
--- `links` was refused since the disk failed: nothing was loaded, read, written or lost
-refused : RefusedOver (Some Links) None unfit.Disk (unasked no_files) input blank disk (4 ∷ []) []
+-- `links` was refused since memory ran out: nothing was loaded, read, written or lost
+refused : RefusedOver (Some Links) None (unfit.Memory no_memory) (unasked no_files) input blank disk (4 ∷ []) []
 refused = record {
   uses = λ e. cc;
   looked = spends_nothing;
@@ -131,7 +131,12 @@ refused = record {
   silent = refl;
   mirrors = refl;
   none_gone = refl;
+  failed = λ e. cc;
 }
+
+-- a disk that has not failed is no reason
+refused_by_no_disk : RefusedOver (Some Links) None unfit.Disk (unasked no_files) input blank disk (4 ∷ []) [] → ⊥
+refused_by_no_disk h = let rose = h.failed refl in omega (arith, rose)
 
 -- arguments that use no key are not refused
 words_are_not_refused : RefusedOver None None unfit.Disk (unasked no_files) input blank disk (4 ∷ []) [] → ⊥
@@ -289,7 +294,7 @@ abbrev GuardsOver : Option Request → End → Type 0
 GuardsOver asked end = Guards shelf tap page page awaited film mirror asked None None None Nothing end (unasked no_files) (unasked no_files) input input blank blank disk disk (4 ∷ []) (4 ∷ []) [] []
 
 -- a call that was refused did not run, and one that ran, signed or not, did
-refused_guards : GuardsOver (Some Links) (Refused unfit.Disk)
+refused_guards : GuardsOver (Some Links) (Refused (unfit.Memory no_memory))
 refused_guards = refused
 
 ran_guards : GuardsOver None (Ran words)

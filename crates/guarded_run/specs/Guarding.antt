@@ -8,6 +8,7 @@ use Rattle.road_io.specs.declared.library.Library.{Ghosts as LibraryView}
 use Rattle.road_io.specs.declared.source.Source.{Ghosts as SourceView}
 use Rattle.road_io.specs.declared.sink.Sink.{Ghosts as SinkView}
 use Rattle.road_io.specs.declared.disk.Disk.{Ghosts as DiskView}
+use Rattle.road_io.specs.Causes.{Rose}
 use Rattle.road_io.specs.Disk.{Stays}
 use Rattle.road_io.specs.Moments.{AtEachMoment, Image, still_told}
 use Rattle.mirror_out.specs.declared.mirror.Mirror.{Ghosts as MirrorView}
@@ -47,7 +48,7 @@ SignsBehind g asked sight began new = (k : ℕ) (i : List ℕ) → g.clock began
 module _ {L S I K D M : Type 0} (library : LibraryView L) (source : SourceView S) (below : SinkView I)
     (sink : SinkView K) (awaited : K → Option (List ℕ)) (disk : DiskView D) (mirror : MirrorView M) where
   -- A command that uses the keys was refused. Nothing ran: library, source and mirrors are unchanged, none is gone,
-  -- the sink took nothing, and the desk is as the look leaves it.
+  -- the sink took nothing, and the desk is as the look leaves it. The disk is the reason only if it failed.
   pub record RunsNot (asked : Option Request) (first : Option (List ℕ)) (spending : Spending)
       (why : Unfit) (l l' : L) (s s' : S) (k' : K) (d d' : D) (ms ms' gone gone' : List M) :
       Type 0 where
@@ -61,6 +62,7 @@ module _ {L S I K D M : Type 0} (library : LibraryView L) (source : SourceView S
     pub silent : sink.taken k' ≡ Some []
     pub mirrors : ms' ≡ ms
     pub none_gone : gone' ≡ gone
+    pub failed : why ≡ Disk → Rose (disk.faults d) (disk.faults d')
 
   -- The run came after the look, from the desk as the look left and reported it, into a sink over the one that was
   -- given, which had taken nothing and expected this key. From the same desk, the list of the mirrors that are gone
@@ -109,6 +111,12 @@ abbrev pub EndsBehind : End → Ended → Type 0 → ℕ → Type 0
 EndsBehind (Refused why) ended awaits refusals = ⊥
 EndsBehind (Unsigned it) ended awaits refusals = (it ≡ ended) × (awaits → 0 < refusals)
 EndsBehind (Ran it) ended awaits refusals = (it ≡ ended) × awaits × (refusals ≡ 0)
+
+-- the number of mirrors that are synced: each that is left behind a run, and none if nothing ran
+abbrev pub mirrors_synced : End → ℕ → ℕ
+mirrors_synced (Refused why) left = 0
+mirrors_synced (Unsigned ended) left = left
+mirrors_synced (Ran ended) left = left
 
 -- the status of a successful run if a mirror could not be synced, or if all could
 abbrev pub synced_exit : ℕ → Bool → ℕ

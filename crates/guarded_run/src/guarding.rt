@@ -1,5 +1,5 @@
 //! The one call that does the look, the opening, the run and the sink in order.
-ghost use Rattle.std.specs.Prelude.{◌≡◌, false, true, is_none, IfSome};
+ghost use Rattle.std.specs.Prelude.{◌≡◌, ◌+◌, false, length, true, is_none, IfSome};
 ghost use Rattle.std.specs.List.{list_all};
 ghost use Rattle.std.specs.declared.option.Option.TheVariants.{Some};
 ghost use Rattle.road_command.specs.Requests.{request_of};
@@ -8,7 +8,8 @@ ghost use Rattle.signed_out.specs.Fronts.{GoesOut};
 ghost use Rattle.mirror_out.specs.Gone.{HasRoom};
 ghost use Rattle.desk_disk.specs.States.{WasFound};
 ghost use Rattle.road_io.specs.Disk.{Narrows};
-ghost use Rattle.guarded_run.specs.Guarding.{EndsBehind, Guards, IfRun, exit_of};
+ghost use Rattle.outside.specs.Called.{count_of};
+ghost use Rattle.guarded_run.specs.Guarding.{EndsBehind, Guards, IfRun, exit_of, mirrors_synced};
 ghost use Rattle.guarded_run.specs.OwnerKey.{IsKnown, TellsSpecial, key_known};
 ghost use Rattle.guarded_run.specs.Shipping.{AreFresh};
 ghost use Rattle.guarded_run.specs.Uses.{does_sign, keys_used};
@@ -113,11 +114,18 @@ fn end_of<K: Sink + Drop>(ended: Ended, sink: &SignedSink<K>, signer: &Option<[u
     }
 }
 
-/// Syncs what mirrors have taken, and returns those that could not be synced.
-fn synced(mirrors: &[FileMirror]) -> Unsynced {
+/// Syncs what mirrors have taken, each by one call, and returns those that could not be synced.
+fn synced<R: Files<File = File> + Drop>(
+    mirrors: &[FileMirror],
+    names: &mut NotedNames<R>,
+) -> Unsynced
+    ensures each { count_of 3 names.new.calls.events ≡
+        count_of 3 names.old.calls.events + length mirrors.now }
+    ensures answers { names.new.answers.events ≡ names.old.answers.events }
+{
     let mut unsynced: Unsynced = [None; 8];
     for (place, mirror) in mirrors.iter().enumerate() {
-        if let Err(e) = mirror.sync() {
+        if let Err(e) = mirror.sync(names) {
             unsynced[place.min(7)] = Some((mirror.label(), e));
         }
     }
@@ -177,6 +185,8 @@ pub fn guarded_run<R: Files<File = File> + Print + Input + Drop + Copy>(
         (λ folder. IsKnown (folder OWNER_KEY.now) result.known) }
     ensures special { TellsSpecial OWNER_KEY.now result.names.answers.events result.known }
     ensures synced { result.is_synced ≡ list_all is_none result.unsynced }
+    ensures syncs { count_of 3 result.names.calls.events ≡
+        mirrors_synced result.end (length result.mirrors.items) }
     ensures key_files { Narrows (⟦<FileLibrary<R> as Library>⟧.files objects.keys)
         (⟦<FileLibrary<R> as Library>⟧.files result.keys) }
     ensures first { result.first ≡ key_known result.known }
@@ -234,7 +244,7 @@ pub fn guarded_run<R: Files<File = File> + Print + Input + Drop + Copy>(
         &mut mirrors,
         &mut gone,
     );
-    let unsynced = synced(&mirrors);
+    let unsynced = synced(&mirrors, &mut names);
     disk.was_found();
     Guarded {
         end: end_of(ended, &sink, &signer),

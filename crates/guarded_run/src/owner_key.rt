@@ -1,5 +1,6 @@
 //! The file `owner.key`.
 ghost use Rattle.std.specs.Prelude.{◌≡◌, ◌≢◌, ◌↔◌, ℕ, List, [], Option, false, true, take, IfSome};
+ghost use Rattle.outside.specs.Called.{count_of};
 ghost use Rattle.road_io.specs.Contents.{Gives};
 ghost use Rattle.road_command.specs.Requests.{request_of};
 ghost use Rattle.road_io.specs.Disk.{Narrows};
@@ -78,7 +79,8 @@ fn key_in(text: &[u8]) -> Option<[u8; 56]>
 /// Tests whether the file exists and is not a regular file, by a look at it. Opening such a file might wait.
 fn is_special<R: Files + Drop>(names: &mut NotedNames<R>) -> bool
     requires { names.old.answers.events ≡ [] }
-    ensures { (result ≡ true) ↔ ShowsSpecial OWNER_KEY.now names.new.answers.events }
+    ensures special { (result ≡ true) ↔ ShowsSpecial OWNER_KEY.now names.new.answers.events }
+    ensures unsynced { count_of 3 names.new.calls.events ≡ count_of 3 names.old.calls.events }
 {
     match names.look(OWNER_KEY) {
         Ok(file) => file.kind != REGULAR,
@@ -118,6 +120,7 @@ pub fn key_file<R: Files + Drop, L: Library>(
     ensures known { does_sign (keys_used (request_of words.now)) ≡ true →
         IfSome (L.files library.new) (λ folder. IsKnown (folder OWNER_KEY.now) result) }
     ensures files { Narrows (L.files library.old) (L.files library.new) }
+    ensures unsynced { count_of 3 names.new.calls.events ≡ count_of 3 names.old.calls.events }
 {
     if !signs(words) {
         return KeyFile::Unused;

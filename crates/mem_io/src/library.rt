@@ -75,7 +75,7 @@ fn first_named<'a>(files: &'a [NamedFile], name: &str) -> Option<&'a NamedFile>
 impl Library for MemLibrary {
     ghost use Rattle.mem_io.specs.MemLibrary.{files_of, CountsLoad, IsPlannedLoad};
     ghost use Rattle.road_io.specs.Contents.{Gives};
-    ghost use Rattle.road_io.specs.Causes.{HasLoadCause};
+    ghost use Rattle.road_io.specs.Causes.{HasFailed, HasLoadCause};
     ghost use Rattle.road_io.specs.Shelves.{asked_for};
 
     ghost files = { λ l. Some (files_of l) };
@@ -83,6 +83,8 @@ impl Library for MemLibrary {
     ghost asked = { λ l. asked_for l.names.events };
 
     ghost faults = { λ l. l.faults };
+
+    ghost failures = { λ l. l.faults };
 
     fn load(&mut self, alloc: Global, name: &str, most: usize) -> Result<Vec<u8>, LoadError>
         ensures most { IfOk result (λ octets. vec_len octets ≤ most) }
@@ -95,6 +97,8 @@ impl Library for MemLibrary {
         ensures kept { OnOk result (self.new.faults ≡ self.old.faults) }
         ensures cause { IfErr result
             (HasLoadCause (Some (files_of self.new)) self.old.faults self.new.faults) }
+        ensures failed { IfErr result
+            (HasFailed (Some (files_of self.new)) self.old.faults self.new.faults) }
         ensures planned { IsPlannedLoad self.old → result ≡ Err LoadError.Failed }
         ensures only_planned { result ≡ Err LoadError.Failed → IsPlannedLoad self.old }
         ensures counts { CountsLoad self.old self.new }

@@ -1,13 +1,16 @@
 //! A mirror in a file: an adapter over the real file, which states the octets that it reported as taken.
-ghost use Rattle.std.specs.Prelude.{◌≡◌, ◌≢◌, ◌∷◌, [], length, IfErr, IsOk, OnOk, OnErr};
+ghost use Rattle.std.specs.Prelude.{◌≡◌, ◌≢◌, ◌+◌, ◌∷◌, [], length, IfErr, IsErr, IsOk, OnOk, OnErr};
 ghost use Rattle.std.specs.IoError.{error_kind};
 ghost use Rattle.std.specs.declared.option.Option.TheVariants.{Some};
+ghost use Rattle.outside.specs.Called.{Adds};
+ghost use Rattle.mirror_out.specs.FileMirror.{SyncsOnce};
 
 use crate::Mirror;
-use outside::{NotedTail, Record};
+use outside::{NotedNames, NotedTail, Record};
 use road_io::Failed;
 use std::fs::File;
 use std::io::{self, ErrorKind};
+use std::rt::Files;
 
 /// A file that appends each piece, or a file that could not be opened and takes none. It promises nothing. It
 /// states the pieces that it reported as taken, which follow the old contents of the file. A put that fails may
@@ -27,6 +30,7 @@ impl FileMirror {
     pub fn new(label: u32, file: File) -> FileMirror
         ensures label { label_of result ≡ label }
         ensures taken { result.tail.history.events ≡ [] }
+        ensures calls { result.tail.calls.events ≡ [] }
         ensures handed { result.handed.events ≡ [] }
         ensures faults { result.faults ≡ 0 }
     {
@@ -42,6 +46,7 @@ impl FileMirror {
     pub fn lost(label: u32) -> FileMirror
         ensures label { label_of result ≡ label }
         ensures taken { result.tail.history.events ≡ [] }
+        ensures calls { result.tail.calls.events ≡ [] }
         ensures handed { result.handed.events ≡ [] }
         ensures faults { result.faults ≡ 0 }
     {
@@ -53,9 +58,13 @@ impl FileMirror {
         }
     }
 
-    /// Makes the octets that it has taken durable. A device that cannot sync counts as synced.
-    pub fn sync(&self) -> io::Result<()> {
-        excused(self.tail.sync())
+    /// Makes the octets that it has taken durable, by one call that is noted among those of the names. A device that
+    /// cannot sync counts as synced.
+    pub fn sync<R: Files<File = File> + Drop>(&self, names: &mut NotedNames<R>) -> io::Result<()>
+        ensures once { SyncsOnce result names.old.calls.events names.new.calls.events }
+        ensures answers { names.new.answers.events ≡ names.old.answers.events }
+    {
+        excused(self.tail.sync(names))
     }
 }
 
@@ -63,6 +72,7 @@ impl FileMirror {
 fn excused(answer: io::Result<()>) -> io::Result<()>
     ensures failed { IfErr answer (λ e. error_kind e ≢ ErrorKind.InvalidInput → result ≡ answer) }
     ensures synced { OnOk answer (IsOk result) }
+    ensures unsynced { OnErr result (IsErr answer) }
 {
     match answer {
         Err(e) if e.kind() == ErrorKind::InvalidInput => Ok(()),
@@ -71,7 +81,11 @@ fn excused(answer: io::Result<()>) -> io::Result<()>
 }
 
 impl Mirror for FileMirror {
+    ghost use Rattle.std.specs.Io.KnownBytes.{Appends};
+    ghost use Rattle.outside.specs.Called.{Refuses};
+    ghost use Rattle.road_io.specs.Causes.{HasCause};
     ghost use Rattle.road_io.specs.Noted.{noted};
+    ghost use Rattle.mirror_out.specs.Mirrors.{PromisedLess};
 
     ghost octets = { λ m. Some (noted m.tail.history.events) };
 
@@ -89,7 +103,20 @@ impl Mirror for FileMirror {
         self.label
     }
 
-    fn put(&mut self, piece: &[u8]) -> Result<(), Failed> {
+    fn put(&mut self, piece: &[u8]) -> Result<(), Failed>
+        ensures ok { OnOk result (Appends (Some (noted self.old.tail.history.events))
+            (Some (noted self.new.tail.history.events)) piece.now) }
+        ensures label { self.new.label ≡ self.old.label }
+        ensures err { OnErr result (PromisedLess 1 piece.now 0 0) }
+        ensures left { OnErr result (Some (noted self.new.tail.history.events) ≡
+            Some (noted self.old.tail.history.events)) }
+        ensures kept { OnOk result (self.new.faults ≡ self.old.faults) }
+        ensures cause { HasCause self.old.faults self.new.faults result }
+        ensures counted { length self.new.handed.events ≡ length self.old.handed.events + 1 }
+        ensures asked { Adds 0 piece.now self.old.tail.calls.events self.new.tail.calls.events }
+        ensures refused { OnErr result
+            (Refuses self.old.tail.calls.events self.new.tail.calls.events) }
+    {
         self.handed.note(&[], piece);
         match self.tail.append(piece) {
             Ok(()) => Ok(()),

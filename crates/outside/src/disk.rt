@@ -1,7 +1,8 @@
 //! A file that is used as a disk.
-ghost use Rattle.std.specs.Prelude.{◌≡◌, ◌∷◌, [], true, IfOk, OnOk, OnErr};
-ghost use Rattle.std.specs.Fs.{metadata_len, new_options, with_read, with_write};
+ghost use Rattle.std.specs.Prelude.{◌≡◌, ◌≤◌, ◌∷◌, [], List, ℕ, length, true, IfOk, IsOk, OnOk, OnErr};
+ghost use Rattle.std.specs.Fs.{metadata_len, new_options, with_create_new, with_read, with_write};
 ghost use Rattle.std.specs.Option.{unwrap_or};
+ghost use Rattle.outside.specs.Called.{Adds, Called, Refuses, creations, looks_first, syncs, was_missing};
 ghost use Rattle.outside.specs.Calls.{ReadsAt, WritesAt, noted_sync, noted_write};
 ghost use Rattle.outside.specs.Looks.{seen_as};
 
@@ -35,6 +36,7 @@ impl<R: Files<File = File> + Drop> NotedDisk<R> {
     pub fn new(rt: R) -> NotedDisk<R>
         ensures history { result.history.events ≡ [] }
         ensures answers { result.names.answers.events ≡ [] }
+        ensures calls { result.names.calls.events ≡ [] }
     {
         NotedDisk {
             file: Err(io::Error::from(ErrorKind::NotConnected)),
@@ -49,26 +51,35 @@ impl<R: Files<File = File> + Drop> NotedDisk<R> {
     pub fn open(&mut self, name: &str) -> io::Result<Opened>
         ensures history { self.new.history.events ≡ self.old.history.events }
         ensures answers { self.new.names.answers.events ≡ self.old.names.answers.events }
+        ensures called { Called 4 name.now result self.old.names.calls.events
+            self.new.names.calls.events }
     {
-        self.opened(&as_it_is(), name)
+        self.opened(4, &as_it_is(false), name)
     }
 
     /// Creates a file with a name that only its owner may read and write. If that fails, the reason is kept.
     pub fn create(&mut self, name: &str) -> io::Result<Opened>
         ensures history { self.new.history.events ≡ self.old.history.events }
         ensures answers { self.new.names.answers.events ≡ self.old.names.answers.events }
+        ensures called { Called 5 name.now result self.old.names.calls.events
+            self.new.names.calls.events }
     {
-        let mut how = as_it_is();
-        how.create_new(true).mode(0o600);
-        self.opened(&how, name)
+        let mut how = as_it_is(true);
+        self.opened(5, how.mode(0o600), name)
     }
 
-    /// Opens the file with a name. If that fails, the reason is kept.
-    fn opened(&mut self, how: &OpenOptions, name: &str) -> io::Result<Opened>
+    /// Opens the file with a name, and notes the call under a code. If that fails, the reason is kept.
+    fn opened(&mut self, code: u64, how: &OpenOptions, name: &str) -> io::Result<Opened>
         ensures history { self.new.history.events ≡ self.old.history.events }
         ensures answers { self.new.names.answers.events ≡ self.old.names.answers.events }
+        ensures called { Called code name.now result self.old.names.calls.events
+            self.new.names.calls.events }
     {
-        match how.open(&self.names.rt, name) {
+        match self
+            .names
+            .calls
+            .call(code, name.as_bytes(), how.open(&self.names.rt, name))
+        {
             Ok(file) => Ok(Opened(file)),
             Err(e) => {
                 self.file = Err(e);
@@ -84,11 +95,24 @@ impl<R: Files<File = File> + Drop> NotedDisk<R> {
             (self.new.names.answers.events ≡ (5 ∷ [], []) ∷ self.old.names.answers.events) }
         ensures kept { OnErr result
             (self.new.names.answers.events ≡ self.old.names.answers.events) }
+        ensures called { OnOk result (self.new.names.calls.events ≡
+            (0 ∷ 7 ∷ [], []) ∷ (0 ∷ 6 ∷ [], []) ∷ self.old.names.calls.events) }
+        ensures refused { OnErr result
+            (Refuses self.old.names.calls.events self.new.names.calls.events) }
+        ensures more { length self.old.names.calls.events ≤ length self.new.names.calls.events }
+        ensures first { looks_first self.old.names.calls.events ≡ true →
+            looks_first self.new.names.calls.events ≡ true }
+        ensures missing { (absent : List ℕ) → was_missing absent self.old.names.calls.events ≡ true →
+            was_missing absent self.new.names.calls.events ≡ true }
+        ensures syncs { syncs self.new.names.calls.events ≡ syncs self.old.names.calls.events }
+        ensures creations { creations self.new.names.calls.events ≡
+            creations self.old.names.calls.events }
     {
-        opened.0.try_lock()?;
-        sync_folder(&self.names.rt)?;
-        self.take(opened.0);
-        Ok(())
+        self.names
+            .calls
+            .call(6, b"", opened.0.try_lock().map_err(io::Error::from))?;
+        self.names.calls.call(7, b"", sync_folder(&self.names.rt))?;
+        self.take(opened.0)
     }
 
     /// Opens the existing file with a name for reading, locks it against all who write, and uses it from now on.
@@ -98,27 +122,47 @@ impl<R: Files<File = File> + Drop> NotedDisk<R> {
             (self.new.names.answers.events ≡ (5 ∷ [], []) ∷ self.old.names.answers.events) }
         ensures kept { OnErr result
             (self.new.names.answers.events ≡ self.old.names.answers.events) }
+        ensures called { OnOk result (self.new.names.calls.events ≡
+            (0 ∷ 9 ∷ [], []) ∷ (0 ∷ 8 ∷ [], name.now) ∷ self.old.names.calls.events) }
+        ensures refused { OnErr result
+            (Refuses self.old.names.calls.events self.new.names.calls.events) }
+        ensures more { length self.old.names.calls.events ≤ length self.new.names.calls.events }
+        ensures first { looks_first self.old.names.calls.events ≡ true →
+            looks_first self.new.names.calls.events ≡ true }
+        ensures missing { (absent : List ℕ) → was_missing absent self.old.names.calls.events ≡ true →
+            was_missing absent self.new.names.calls.events ≡ true }
+        ensures syncs { syncs self.new.names.calls.events ≡ syncs self.old.names.calls.events }
+        ensures creations { creations self.new.names.calls.events ≡
+            creations self.old.names.calls.events }
     {
-        let file = fs::open(&self.names.rt, name)?;
-        file.try_lock_shared()?;
-        self.take(file);
-        Ok(())
+        let file = self
+            .names
+            .calls
+            .call(8, name.as_bytes(), fs::open(&self.names.rt, name))?;
+        self.names
+            .calls
+            .call(9, b"", file.try_lock_shared().map_err(io::Error::from))?;
+        self.take(file)
     }
 
     /// Uses a file from now on, and notes that looks at an earlier one tell nothing of it.
-    fn take(&mut self, file: File)
+    fn take(&mut self, file: File) -> io::Result<()>
+        ensures done { IsOk result }
         ensures history { self.new.history.events ≡ self.old.history.events }
         ensures noted { self.new.names.answers.events ≡
             (5 ∷ [], []) ∷ self.old.names.answers.events }
+        ensures calls { self.new.names.calls.events ≡ self.old.names.calls.events }
     {
         self.names.answers.note(&[5], &[]);
         self.file = Ok(file);
+        Ok(())
     }
 
     /// Closes the file.
     pub fn close(&mut self)
         ensures history { self.new.history.events ≡ self.old.history.events }
         ensures answers { self.new.names.answers.events ≡ self.old.names.answers.events }
+        ensures calls { self.new.names.calls.events ≡ self.old.names.calls.events }
     {
         self.file = Err(io::Error::from(ErrorKind::NotConnected));
     }
@@ -131,10 +175,13 @@ impl<R: Files<File = File> + Drop> NotedDisk<R> {
             self.new.history.events ≡ (0 ∷ n ∷ [], []) ∷ self.old.history.events) }
         ensures kept { OnErr result (self.new.history.events ≡ self.old.history.events) }
         ensures answers { self.new.names.answers.events ≡ self.old.names.answers.events }
+        ensures called { Adds 10 [] self.old.names.calls.events self.new.names.calls.events }
+        ensures failed { OnErr result
+            (Refuses self.old.names.calls.events self.new.names.calls.events) }
     {
-        let count = match &self.file {
-            Ok(file) => length_in(&file.metadata()?),
-            Err(e) => empty(*e)?,
+        let count = match self.names.calls.call(10, b"", metadata_of(&self.file)) {
+            Ok(file) => length_in(&file),
+            Err(e) => empty(e)?,
         };
         self.history.note(&[0, count], &[]);
         Ok(count)
@@ -146,12 +193,14 @@ impl<R: Files<File = File> + Drop> NotedDisk<R> {
             (self.new.history.events ≡ (1 ∷ at ∷ [], into.new) ∷ self.old.history.events) }
         ensures kept { OnErr result (self.new.history.events ≡ self.old.history.events) }
         ensures answers { self.new.names.answers.events ≡ self.old.names.answers.events }
+        ensures called { Called 11 [] result self.old.names.calls.events
+            self.new.names.calls.events }
     {
-        match &mut self.file {
-            Ok(file) => read_at(file, at, into)?,
-            Err(_) if into.is_empty() => {}
-            Err(_) => return Err(io::Error::from(ErrorKind::UnexpectedEof)),
-        }
+        let answer = match &mut self.file {
+            Ok(file) => read_at(file, at, into),
+            Err(_) => read_at(&mut io::empty(), at, into),
+        };
+        self.names.calls.call(11, b"", answer)?;
         self.history.note(&[1, at], into);
         Ok(())
     }
@@ -161,6 +210,8 @@ impl<R: Files<File = File> + Drop> NotedDisk<R> {
         ensures noted { self.new.history.events ≡
             noted_write result at octets.now ∷ self.old.history.events }
         ensures answers { self.new.names.answers.events ≡ self.old.names.answers.events }
+        ensures called { Called 12 octets.now result self.old.names.calls.events
+            self.new.names.calls.events }
     {
         let answer = match &mut self.file {
             Ok(file) => write_at(file, at, octets),
@@ -168,7 +219,7 @@ impl<R: Files<File = File> + Drop> NotedDisk<R> {
         };
         self.history
             .note(&[if answer.is_ok() { 2 } else { 3 }, at], octets);
-        answer
+        self.names.calls.call(12, octets, answer)
     }
 
     /// Notes a write as failed that is not made.
@@ -176,6 +227,7 @@ impl<R: Files<File = File> + Drop> NotedDisk<R> {
         ensures noted { self.new.history.events ≡
             (3 ∷ at ∷ [], octets.now) ∷ self.old.history.events }
         ensures answers { self.new.names.answers.events ≡ self.old.names.answers.events }
+        ensures calls { self.new.names.calls.events ≡ self.old.names.calls.events }
     {
         self.history.note(&[3, at], octets);
     }
@@ -185,6 +237,8 @@ impl<R: Files<File = File> + Drop> NotedDisk<R> {
         ensures noted { self.new.history.events ≡
             noted_sync result ∷ self.old.history.events }
         ensures answers { self.new.names.answers.events ≡ self.old.names.answers.events }
+        ensures called { Called 13 [] result self.old.names.calls.events
+            self.new.names.calls.events }
     {
         let answer = match &self.file {
             Ok(file) => file.sync_all(),
@@ -192,7 +246,7 @@ impl<R: Files<File = File> + Drop> NotedDisk<R> {
         };
         self.history
             .note(&[if answer.is_ok() { 4 } else { 5 }], &[]);
-        answer
+        self.names.calls.call(13, b"", answer)
     }
 
     // ---- looks
@@ -202,6 +256,7 @@ impl<R: Files<File = File> + Drop> NotedDisk<R> {
         ensures noted { self.new.names.answers.events ≡
             (0 ∷ unwrap_or result 0 ∷ [], []) ∷ self.old.names.answers.events }
         ensures history { self.new.history.events ≡ self.old.history.events }
+        ensures called { Adds 2 [] self.old.names.calls.events self.new.names.calls.events }
     {
         self.names.user()
     }
@@ -213,6 +268,8 @@ impl<R: Files<File = File> + Drop> NotedDisk<R> {
         ensures kept { OnErr result
             (self.new.names.answers.events ≡ self.old.names.answers.events) }
         ensures history { self.new.history.events ≡ self.old.history.events }
+        ensures called { Called 0 name.now result self.old.names.calls.events
+            self.new.names.calls.events }
     {
         self.names.look_at_link(name)
     }
@@ -224,11 +281,10 @@ impl<R: Files<File = File> + Drop> NotedDisk<R> {
         ensures kept { OnErr result
             (self.new.names.answers.events ≡ self.old.names.answers.events) }
         ensures history { self.new.history.events ≡ self.old.history.events }
+        ensures called { Called 14 [] result self.old.names.calls.events
+            self.new.names.calls.events }
     {
-        let look = match &self.file {
-            Ok(file) => look_of(&file.metadata()?),
-            Err(e) => return Err(*e),
-        };
+        let look = look_of(&self.names.calls.call(14, b"", metadata_of(&self.file))?);
         note_look(&mut self.names.answers, 2, look, &[]);
         Ok(look)
     }
@@ -238,22 +294,39 @@ impl<R: Files<File = File> + Drop> NotedDisk<R> {
         ensures noted { self.new.names.answers.events ≡
             (3 ∷ [], []) ∷ self.old.names.answers.events }
         ensures history { self.new.history.events ≡ self.old.history.events }
+        ensures called { Called 15 [] result self.old.names.calls.events
+            self.new.names.calls.events }
     {
         self.names.answers.note(&[3], &[]);
-        match &self.file {
-            Ok(file) => file.set_permissions(Permissions::from_mode(0o600)),
-            Err(e) => Err(*e),
-        }
+        self.names.calls.call(15, b"", closed(&self.file))
     }
 }
 
-/// Returns how an existing file is opened for reading and writing: it is neither created nor cut.
-fn as_it_is() -> OpenOptions
-    ensures { result ≡ with_write (with_read new_options true) true }
+/// Returns how a file is opened for reading and writing, a new one or an existing one: that one is not cut.
+fn as_it_is(new: bool) -> OpenOptions
+    ensures { result ≡ with_create_new (with_write (with_read new_options true) true) new }
 {
     let mut how = OpenOptions::new();
-    how.read(true).write(true);
+    how.read(true).write(true).create_new(new);
     how
+}
+
+/// Returns the open file, or the reason why there is none.
+fn held(file: &io::Result<File>) -> io::Result<&File> {
+    match file {
+        Ok(file) => Ok(file),
+        Err(e) => Err(*e),
+    }
+}
+
+/// Looks at the open file.
+fn metadata_of(file: &io::Result<File>) -> io::Result<Metadata> {
+    held(file)?.metadata()
+}
+
+/// Denies others access to the open file.
+fn closed(file: &io::Result<File>) -> io::Result<()> {
+    held(file)?.set_permissions(Permissions::from_mode(0o600))
 }
 
 /// Returns the length of a file in octets, from its metadata.

@@ -1,24 +1,28 @@
 //! Standard output.
 ghost use Rattle.std.specs.Prelude.{◌≡◌, ◌∷◌, ◌≤◌, [], length, take, IfOk, OnErr};
+ghost use Rattle.outside.specs.Called.{Called};
 
 use crate::record::Record;
 use std::io;
 
-/// Standard output, and the octets that the system said it took.
+/// Standard output, the octets that the system said it took, and each call, under the code 0 with the octets.
 #[derive(Drop)]
 pub struct NotedOutput<R: Print + Drop> {
     rt: R,
     history: Record,
+    calls: Record,
 }
 
 impl<R: Print + Drop> NotedOutput<R> {
     /// Makes the runtime's standard output. It has taken nothing.
     pub fn new(rt: R) -> NotedOutput<R>
-        ensures { result.history.events ≡ [] }
+        ensures history { result.history.events ≡ [] }
+        ensures calls { result.calls.events ≡ [] }
     {
         NotedOutput {
             rt,
             history: Record::new(),
+            calls: Record::new(),
         }
     }
 
@@ -28,8 +32,9 @@ impl<R: Print + Drop> NotedOutput<R> {
         ensures noted { IfOk result (λ n.
             self.new.history.events ≡ ([], take n octets.now) ∷ self.old.history.events) }
         ensures kept { OnErr result (self.new.history.events ≡ self.old.history.events) }
+        ensures called { Called 0 octets.now result self.old.calls.events self.new.calls.events }
     {
-        let count = self.rt.write_some(octets)?;
+        let count = self.calls.call(0, octets, self.rt.write_some(octets))?;
         self.history.note(&[], &octets[..count]);
         Ok(count)
     }

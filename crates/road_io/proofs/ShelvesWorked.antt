@@ -1,7 +1,7 @@
 -- The definitions of a library's contents, in small cases.
 use Rattle.std.proofs.Common.{◌≡◌, [], ◌∷◌, List, true, false, refl}
 use Rattle.std.specs.declared.option.Option.TheVariants.{None, Some}
-use Rattle.road_io.specs.Shelves.{Note, shelf, opened, read_of, agrees, told}
+use Rattle.road_io.specs.Shelves.{Note, shelf, opened, read_of, agrees, told, asked_in, failures_in}
 
 -- file "a" has three octets and file "b" has none; "a" occurs a second time, which is ignored
 abbrev world : List Note
@@ -63,3 +63,28 @@ read_of_none = refl
 
 end_of_none : agrees (shelf world) ((3 ∷ [], []) ∷ (0 ∷ [], 99 ∷ []) ∷ []) ≡ false
 end_of_none = refl
+
+-- a refused opening and a closing tell nothing of a file
+refused_opening : told world ((4 ∷ 0 ∷ [], 99 ∷ []) ∷ whole) ≡ Some (shelf world)
+refused_opening = refl
+
+closed : read_of ((5 ∷ 0 ∷ [], []) ∷ whole) ≡ 1 ∷ 2 ∷ 3 ∷ []
+closed = refl
+
+-- each opening asks for its name, whatever the answer; reads and closings ask for none
+asked_names : asked_in ((5 ∷ 4 ∷ [], []) ∷ (4 ∷ 0 ∷ [], 98 ∷ []) ∷ (1 ∷ 0 ∷ [], 99 ∷ []) ∷ whole) ≡
+    (97 ∷ []) ∷ (99 ∷ []) ∷ (98 ∷ []) ∷ []
+asked_names = refl
+
+-- a load that failed is a failure; a file that is missing or too long is none while the answers agree with the files
+failed_once : failures_in (shelf world) ((5 ∷ 4 ∷ [], []) ∷ (4 ∷ 0 ∷ [], 98 ∷ []) ∷ (5 ∷ 0 ∷ [], []) ∷ whole) ≡ 1
+failed_once = refl
+
+explained : failures_in (shelf world) ((5 ∷ 1 ∷ [], []) ∷ (1 ∷ 0 ∷ [], 99 ∷ []) ∷ (5 ∷ 2 ∷ [], []) ∷ whole) ≡ 0
+explained = refl
+
+unexplained : failures_in (shelf world) ((5 ∷ 1 ∷ [], []) ∷ (1 ∷ 0 ∷ [], 97 ∷ []) ∷ whole) ≡ 1
+unexplained = refl
+
+no_memory_is_no_failure : failures_in (shelf world) ((5 ∷ 3 ∷ [], []) ∷ (1 ∷ 0 ∷ [], 97 ∷ []) ∷ whole) ≡ 0
+no_memory_is_no_failure = refl

@@ -52,7 +52,8 @@ fn front_of(octets: &[u8], most: usize) -> &[u8]
 }
 
 /// A library over another one, which keeps a prefix of each loaded file. If memory is too short to keep a prefix,
-/// the file is loaded all the same.
+/// the file is loaded all the same. It counts as its failures those that the stated files do not explain: a file that
+/// is missing or too long is none.
 #[derive(Drop)]
 pub struct KeptLibrary<L: Library + Drop> {
     inner: L,
@@ -103,7 +104,9 @@ impl<L: Library + Drop> Library for KeptLibrary<L> {
 
     ghost asked = { λ l. L.asked l.inner };
 
-    ghost faults = { λ l. L.faults l.inner };
+    ghost faults = { λ l. L.failures l.inner };
+
+    ghost failures = { λ l. L.failures l.inner };
 
     fn load(&mut self, alloc: Global, name: &str, most: usize) -> Result<Vec<u8>, LoadError> {
         match self.inner.load(alloc, name, most) {

@@ -19,6 +19,7 @@ impl<R: Input> StdSource<R> {
     /// Makes the source of the runtime's standard input. It has given nothing.
     pub fn new(rt: &R) -> StdSource<R>
         ensures history { result.input.history.events ≡ [] }
+        ensures calls { result.input.calls.events ≡ [] }
         ensures faults { result.faults ≡ 0 }
     {
         StdSource {
@@ -35,6 +36,11 @@ impl<R: Input> StdSource<R> {
 }
 
 impl<R: Input> Source for StdSource<R> {
+    ghost use Rattle.std.specs.Prelude.{◌<◌, OnOk, OnErr};
+    ghost use Rattle.std.specs.Io.KnownBytes.{WriteAppends};
+    ghost use Rattle.std.specs.declared.option.Option.TheVariants.{Some};
+    ghost use Rattle.outside.specs.Called.{Refuses};
+    ghost use Rattle.road_io.specs.Causes.{HasCause};
     ghost use Rattle.road_io.specs.Noted.{noted};
     ghost use Rattle.road_io.specs.Given.{IsEnd};
 
@@ -46,7 +52,17 @@ impl<R: Input> Source for StdSource<R> {
 
     ghost faults = { λ s. s.faults };
 
-    fn read(&mut self, into: &mut [u8]) -> Result<usize, Failed> {
+    fn read(&mut self, into: &mut [u8]) -> Result<usize, Failed>
+        ensures most { IfOk result (λ n. n ≤ length into.new) }
+        ensures gave { WriteAppends (Some (noted self.old.input.history.events))
+            (Some (noted self.new.input.history.events)) result into.new }
+        ensures ended { IfOk result (λ n. n ≡ 0 → 0 < length into.new →
+            IsEnd self.new.input.history.events) }
+        ensures kept { OnOk result (self.new.faults ≡ self.old.faults) }
+        ensures cause { HasCause self.old.faults self.new.faults result }
+        ensures refused { OnErr result
+            (Refuses self.old.input.calls.events self.new.input.calls.events) }
+    {
         match self.input.read(into) {
             Ok(count) => Ok(count),
             Err(e) => {

@@ -22,7 +22,7 @@ pub record Shelf : Type 0 where
   pub faults : ℕ
 
 abbrev pub shelf : LibraryView Shelf
-shelf = record { files = λ l. Some l.files; asked = λ l. l.asked; faults = λ l. l.faults }
+shelf = record { files = λ l. Some l.files; asked = λ l. l.asked; faults = λ l. l.faults; failures = λ l. l.faults }
 
 -- a source with these octets left, which has given these and has not ended
 pub record Tap : Type 0 where

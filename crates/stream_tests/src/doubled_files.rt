@@ -55,7 +55,7 @@ fn a_file_is_opened_read_and_closed(rt: HostRuntime) {
         assert_row(&rt, octets, &told(files.read(&mut piece)), &wanted);
         assert_octets(&rt, &piece, octets.as_bytes());
     }
-    files.close();
+    files.close(0);
     let closed = files.read(&mut piece);
     assert_same(&rt, &told(closed), &Err(ErrorKind::NotFound));
     let calls = "open map.roads read\nread 4\nread 4\nread 4\nread 4\nread 4\nread 4\nclose\n";

@@ -3,7 +3,7 @@
 use crate::asserts::{assert_octets, assert_row, assert_same, told};
 use crate::double_files::real;
 use crate::script::{Answer, Script};
-use outside::{NotedTail, open_to_append, sync_folder};
+use outside::{NotedNames, NotedTail, open_to_append, sync_folder};
 use std::fs;
 use std::io::ErrorKind;
 use std::os::unix::fs::MetadataExt;
@@ -41,7 +41,7 @@ fn a_piece_is_put_behind_all_octets(rt: HostRuntime) -> Result<(), Fail> {
         tail.append(piece.as_bytes())?;
         beside.append(b" other")?;
     }
-    tail.sync()?;
+    tail.sync(&mut NotedNames::new(rt))?;
     let shown = fs::metadata(&rt, "tail.mirror")?;
     let octets = fs::read_to_string(&rt, "tail.mirror")?;
     fs::remove_file(&rt, "tail.mirror")?;
@@ -72,12 +72,16 @@ fn a_full_tail_is_told(rt: HostRuntime) -> Result<(), Fail> {
     let piece = tail.append(b"octets");
     assert_same(&rt, &told(piece), &Err(ErrorKind::StorageFull));
     assert_same(&rt, &told(tail.append(b"")), &Ok(()));
-    assert_same(&rt, &told(tail.sync()), &Err(ErrorKind::InvalidInput));
+    assert_same(
+        &rt,
+        &told(tail.sync(&mut NotedNames::new(rt))),
+        &Err(ErrorKind::InvalidInput),
+    );
     script.assert_calls(&rt, "full", "open mirror-1 append\n");
     let mut none = NotedTail::new(None);
     let piece = none.append(b"octets");
     assert_same(&rt, &told(piece), &Err(ErrorKind::NotFound));
-    assert_same(&rt, &told(none.sync()), &Ok(()));
+    assert_same(&rt, &told(none.sync(&mut NotedNames::new(rt))), &Ok(()));
     Ok(())
 }
 

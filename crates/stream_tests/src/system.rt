@@ -45,7 +45,7 @@ fn a_file_is_read_to_its_end(rt: HostRuntime) -> Result<(), Fail> {
     let front = piece;
     let second = files.read(&mut piece)?;
     let third = files.read(&mut piece)?;
-    files.close();
+    files.close(0);
     let closed = files.read(&mut piece);
     fs::remove_file(&rt, name)?;
     assert!(rt; matches!(why(&missing), Some(ErrorKind::NotFound)));
@@ -98,15 +98,16 @@ fn a_tail_is_appended_to(rt: HostRuntime) -> Result<(), Fail> {
     let mut tail = NotedTail::new(Some(file));
     tail.append(b"new")?;
     tail.append(b"er")?;
-    tail.sync()?;
-    let same = NotedNames::new(rt).look(name)?;
+    let mut names = NotedNames::new(rt);
+    tail.sync(&mut names)?;
+    let same = names.look(name)?;
     let text = fs::read_to_string(&rt, name)?;
     fs::remove_file(&rt, name)?;
     assert!(rt; matches!(why(&missing), Some(ErrorKind::NotFound)));
     assert!(rt; look.device == same.device && look.inode == same.inode);
     assert_octets(&rt, text.as_bytes(), b"old newer");
     let mut none = NotedTail::new(None);
-    assert!(rt; none.append(b"new").is_err() && none.sync().is_ok());
+    assert!(rt; none.append(b"new").is_err() && none.sync(&mut names).is_ok());
     Ok(())
 }
 
@@ -114,7 +115,7 @@ fn a_tail_is_appended_to(rt: HostRuntime) -> Result<(), Fail> {
 #[test]
 fn a_tail_is_synced(rt: HostRuntime) -> Result<(), Fail> {
     let (file, _) = open_to_append(&rt, "/dev/null")?;
-    let answer = NotedTail::new(Some(file)).sync();
+    let answer = NotedTail::new(Some(file)).sync(&mut NotedNames::new(rt));
     assert!(rt; matches!(why(&answer), Some(ErrorKind::InvalidInput)));
     sync_folder(&rt)?;
     Ok(())

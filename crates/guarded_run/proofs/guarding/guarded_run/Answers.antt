@@ -9,7 +9,7 @@ returns-in-Err-clause-guards g c =
     c.args.objects.library c.args.objects.source c.new.result c.args.objects.disk c.fit_desk-spending.new.disk c.args.mirrors.items c.args.gone.items
     c.keys_used.ensures
     (refusal _ c.key-first.result c.fit_desk-spending.result.spending c.fit_desk-spending.result.told c.args.objects.disk c.fit_desk-spending.new.disk c.keys_used.result c.in-Err.why c.in-Err.is
-    c.fit_desk-spending.ensures.uses c.fit_desk-spending.ensures.looked c.fit_desk-spending.ensures.left c.fit_desk-spending.ensures.why c.fit_desk-spending.ensures.spent)
+    c.fit_desk-spending.ensures.uses c.fit_desk-spending.ensures.looked c.fit_desk-spending.ensures.left c.fit_desk-spending.ensures.why c.fit_desk-spending.ensures.spent c.fit_desk-spending.ensures.fault)
     (ap Some c.new.ensures.nothing)
 
 pub returns-clause-guards : goal.returns-clause-guards

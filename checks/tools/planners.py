@@ -235,6 +235,8 @@ def play_interrupted(it: Place, front: Any, whole: str) -> None:
             is_sent.wait(60)
 
     front.wrong = held
+    # a shell starts what stands before its & with this signal ignored, which the table would inherit
+    signal.signal(signal.SIGINT, signal.default_int_handler)
     words = [sys.executable, TOOLS / "table.py", front.origin, it.owner.path("owner.key"), "sources", "targets"]
     with open(it.at / "part.csv", "w") as file:
         table = subprocess.Popen(

@@ -444,7 +444,10 @@ def alone(program: str, given: argparse.Namespace) -> int:
     wanted, end, worst = owner.prove(name, *ends), time.monotonic() + 60 * given.minutes, 0.0
     seen: list[tuple[float, float, int]] = []
     line = "GET /v1/p/{}/route?from={}&to={} HTTP/1.1\r\nHost: a\r\n\r\n".format(here, *ends).encode()
-    held = [socket.create_connection((gateway.place.host, gateway.place.port)) for _ in range(200)]
+    # each of them from its own address of the loopback, since the gateway bounds what one address may hold
+    homes = [(f"127.0.1.{number + 1}", 0) for number in range(200)]
+    place = (gateway.place.host, gateway.place.port)
+    held = [socket.create_connection(place, source_address=home) for home in homes]
     bad, turn = 0, 0
     while time.monotonic() < end:
         turn += 1
@@ -454,9 +457,12 @@ def alone(program: str, given: argparse.Namespace) -> int:
                 one.send(line[turn % len(line) : turn % len(line) + 1] if number % 2 else line)
             except OSError:
                 one.close()
-                held[number] = socket.create_connection((gateway.place.host, gateway.place.port))
+                held[number] = socket.create_connection(place, source_address=homes[number])
         began = time.monotonic()
-        bad += Place(gateway.address).ask("/v1/p/{}/route?from={}&to={}".format(here, *ends))[::2] != (200, wanted)
+        status, _, octets = Place(gateway.address).ask("/v1/p/{}/route?from={}&to={}".format(here, *ends))
+        if (status, octets) != (200, wanted):
+            bad += 1
+            print(f"alone: ask {turn} gets {status} with {len(octets)} octets", flush=True)
         worst = max(worst, time.monotonic() - began)
         if turn % 30 == 0:
             seen.append((time.monotonic(), *gateway.memory()))

@@ -366,6 +366,8 @@ def of_room(tree: Tree) -> None:
 
 
 def main() -> None:
+    # a shell starts what stands before its & with this signal ignored, which the builds would inherit
+    signal.signal(signal.SIGINT, signal.default_int_handler)
     with tempfile.TemporaryDirectory(prefix="built-") as room:
         tree = Tree(pathlib.Path(room))
         for part in (

@@ -444,8 +444,8 @@ def alone(program: str, given: argparse.Namespace) -> int:
     wanted, end, worst = owner.prove(name, *ends), time.monotonic() + 60 * given.minutes, 0.0
     seen: list[tuple[float, float, int]] = []
     line = "GET /v1/p/{}/route?from={}&to={} HTTP/1.1\r\nHost: a\r\n\r\n".format(here, *ends).encode()
-    # each of them from its own address of the loopback, since the gateway bounds what one address may hold
-    homes = [(f"127.0.1.{number + 1}", 0) for number in range(200)]
+    # each from its own address of the loopback, or all from the address of the asks
+    homes = [("127.0.0.1" if given.one_address else f"127.0.1.{number + 1}", 0) for number in range(200)]
     place = (gateway.place.host, gateway.place.port)
     held = [socket.create_connection(place, source_address=home) for home in homes]
     bad, turn = 0, 0
@@ -484,6 +484,7 @@ def main(words: list[str]) -> int:
     parser.add_argument("--seconds", type=float, default=20)
     parser.add_argument("--asks", type=int, default=200)
     parser.add_argument("--minutes", type=float, default=60)
+    parser.add_argument("--one-address", action="store_true", help="alone: the others share the address of the asks")
     given = parser.parse_args(words)
     pass_priority_on()
     bad: int = globals()[given.what](given.program, given)

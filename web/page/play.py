@@ -190,11 +190,15 @@ def played_parts(it: Play, names: list[str]) -> None:
     known, began = parts(), time.monotonic()
     it.page.open(it.place.origin)
     for name in names or known:
+        before = len(judge.faults)
         try:
             known[name](it)
         except Exception as error:
             faults = [f"{frame.f_code.co_name} {line}" for frame, line in frames_of(error)]
             judge.faults.append(f"{name}: {type(error).__name__}, {str(error)[:300]}, {' '.join(faults)}")
+        # each fault is told where it is found, since a reader of a gate may see a part of what it printed
+        for fault in judge.faults[before : before + 5]:
+            print(f"DIFFERS {fault}", flush=True)
         print(f"page: {name}, {time.monotonic() - began:.0f} s, {len(judge.faults)} faults", flush=True)
     same("errors on the console", it.page.faults(), [])
 
